@@ -1,0 +1,19 @@
+//! The machine's registers, operands, instructions and items, and the names that a source may not give to its own
+//! things. Everything above speaks of code in these types.
+#![tactic(auto)]
+
+mod instructions;
+mod items;
+mod names;
+mod operands;
+mod places;
+mod text;
+mod words;
+
+pub use instructions::{AluOp, Ins};
+pub use items::{Cond, Item};
+pub use names::{flag_named, reg_named, xmm_named};
+pub use operands::{Mem, Opr};
+pub use places::{FlagName, Place, Reg, Xmm};
+pub use text::Text;
+pub use words::{is_export_name, is_name, is_reserved};
