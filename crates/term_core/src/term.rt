@@ -1,0 +1,93 @@
+// Terms and sequents.
+
+ghost use Rattle.std.specs.Prelude.{◌≡◌};
+ghost use Rattle.term_core.specs.Terms.{tree, tm_eq, tm_sort};
+
+use sqlite_items::{Boxed, Items};
+use x64_syntax::Text;
+
+/// What kind of value a term has: a whole number, a truth or a word of 64 bits.
+#[derive(Clone, Copy, Debug, PartialEq, Eq)]
+pub enum Sort {
+    Int,
+    Bool,
+    W64,
+}
+
+/// An operator on one term.
+#[derive(Clone, Copy, Debug, PartialEq, Eq)]
+pub enum UnOp {
+    /// `int(w)`: the number of a word.
+    Int,
+}
+
+/// An operator on two terms.
+#[derive(Clone, Copy, Debug, PartialEq, Eq)]
+pub enum BinOp {
+    /// `a + b`: of whole numbers, or of words modulo 2^64.
+    Add,
+    /// `and(a, b)` of words, bit by bit.
+    And,
+    /// `xor(a, b)` of words, bit by bit.
+    Xor,
+    /// `a == b` at any one sort.
+    Eq,
+    /// `a <= b` of whole numbers.
+    Le,
+}
+
+/// A term. A name has its sort with it.
+#[derive(Debug, Drop)]
+pub enum Term {
+    Name(Text, Sort),
+    Int(i128),
+    W64(u64),
+    Un(UnOp, Boxed<Term>),
+    Bin(BinOp, Boxed<Term>, Boxed<Term>),
+    /// `ite(c, a, b)`: a where c is true, else b.
+    Ite(Boxed<Term>, Boxed<Term>, Boxed<Term>),
+}
+
+/// Hypotheses and a goal that is to follow from them.
+#[derive(Debug, Drop)]
+pub struct Sequent {
+    pub hyps: Items<Term>,
+    pub goal: Term,
+}
+
+/// Whether two terms are the same.
+pub fn same(a: &Term, b: &Term) -> bool
+    ensures { result ≡ tm_eq (tree a.now) (tree b.now) }
+{
+    match (a, b) {
+        (Term::Name(a, s), Term::Name(b, t)) => a.as_bytes() == b.as_bytes() && s == t,
+        (Term::Int(a), Term::Int(b)) => a == b,
+        (Term::W64(a), Term::W64(b)) => a == b,
+        (Term::Un(o, a), Term::Un(p, b)) => o == p && same(a.get(), b.get()),
+        (Term::Bin(o, a, b), Term::Bin(p, c, d)) => {
+            o == p && same(a.get(), c.get()) && same(b.get(), d.get())
+        }
+        (Term::Ite(a, b, c), Term::Ite(d, e, f)) => {
+            same(a.get(), d.get()) && same(b.get(), e.get()) && same(c.get(), f.get())
+        }
+        _ => false,
+    }
+}
+
+/// The sort of a term's value.
+pub fn sort_of(t: &Term) -> Sort
+    ensures { result ≡ tm_sort (tree t.now) }
+{
+    match t {
+        Term::Name(_, sort) => *sort,
+        Term::Int(_) | Term::Un(UnOp::Int, _) => Sort::Int,
+        Term::W64(_) => Sort::W64,
+        Term::Bin(BinOp::Add, a, _) => match sort_of(a.get()) {
+            Sort::W64 => Sort::W64,
+            Sort::Int | Sort::Bool => Sort::Int,
+        },
+        Term::Bin(BinOp::And | BinOp::Xor, _, _) => Sort::W64,
+        Term::Bin(BinOp::Eq | BinOp::Le, _, _) => Sort::Bool,
+        Term::Ite(_, a, _) => sort_of(a.get()),
+    }
+}
