@@ -38,6 +38,7 @@ abbrev pub sort_eq : Sort → Sort → Bool
 sort_eq sort.Int sort.Int = true
 sort_eq sort.Bool sort.Bool = true
 sort_eq sort.W64 sort.W64 = true
+sort_eq sort.W128 sort.W128 = true
 sort_eq _ _ = false
 
 abbrev pub un_eq : UnOp → UnOp → Bool

@@ -9,14 +9,18 @@ use Rattle.term_core.specs.declared.term.BinOp.{BinOp}
 use Rattle.term_core.specs.declared.term.BinOp.TheVariants as bin
 use Rattle.term_core.specs.Terms.{Tm, Name, Int, W64, Un, Bin, Ite, tm_sort}
 
--- the words of 64 bits are the numbers below this one
+-- the words of 64 bits are the numbers below this one, and those of 128 bits those below the next
 abbrev pub T : ℕ
 T = 2 ^ 64
+
+abbrev pub T128 : ℕ
+T128 = 2 ^ 128
 
 pub data Val : Type 0 where
   Whole : ℤ → Val
   Truth : Bool → Val
   Word : ℕ → Val
+  Wide : ℕ → Val
 
 -- the whole number, the truth or the word of a value of that sort, and a fixed one of any other value
 abbrev pub whole : Val → ℤ
@@ -31,17 +35,23 @@ abbrev pub word : Val → ℕ
 word (Word n) = n % T
 word _ = 0
 
+abbrev pub wide : Val → ℕ
+wide (Wide n) = n % T128
+wide _ = 0
+
 -- a value as one of the sort
 abbrev pub cast : Sort → Val → Val
 cast sort.Int v = Whole (whole v)
 cast sort.Bool v = Truth (truth v)
 cast sort.W64 v = Word (word v)
+cast sort.W128 v = Wide (wide v)
 
 abbrev pub val_eq : Val → Val → Bool
 val_eq (Whole a) (Whole b) = int_eq a b
 val_eq (Truth true) (Truth true) = true
 val_eq (Truth false) (Truth false) = true
 val_eq (Word a) (Word b) = a == b
+val_eq (Wide a) (Wide b) = a == b
 val_eq _ _ = false
 
 abbrev pub un_value : UnOp → Val → Val

@@ -6,12 +6,13 @@ ghost use Rattle.term_core.specs.Terms.{tree, tm_eq, tm_sort};
 use sqlite_items::{Boxed, Items};
 use x64_syntax::Text;
 
-/// What kind of value a term has: a whole number, a truth or a word of 64 bits.
+/// What kind of value a term has: a whole number, a truth, or a word of 64 or 128 bits.
 #[derive(Clone, Copy, Debug, PartialEq, Eq)]
 pub enum Sort {
     Int,
     Bool,
     W64,
+    W128,
 }
 
 /// An operator on one term.
@@ -84,7 +85,7 @@ pub fn sort_of(t: &Term) -> Sort
         Term::W64(_) => Sort::W64,
         Term::Bin(BinOp::Add, a, _) => match sort_of(a.get()) {
             Sort::W64 => Sort::W64,
-            Sort::Int | Sort::Bool => Sort::Int,
+            Sort::Int | Sort::Bool | Sort::W128 => Sort::Int,
         },
         Term::Bin(BinOp::And | BinOp::Xor, _, _) => Sort::W64,
         Term::Bin(BinOp::Eq | BinOp::Le, _, _) => Sort::Bool,

@@ -1,0 +1,62 @@
+-- The hypotheses that straight code gives, and what is to follow from them.
+use Rattle.std.specs.Prelude.{◌≡◌, ◌≢◌, ℕ, zero, suc, ◌+◌, ◌<◌, ◌^◌, Bool, true, not, ◌&&◌, List, [], ◌∷◌, ◌++◌, map, Option, Some, None, decimal, length, is_none, if◌then◌else◌}
+use Rattle.std.specs.List.{list_any}
+use Rattle.x64_syntax.specs.declared.places.Reg.TheVariants.{Rsp}
+use Rattle.x64_syntax.specs.declared.places.FlagName.{FlagName}
+use Rattle.x64_syntax.specs.declared.places.FlagName.TheVariants.{Cf, Zf, Sf, Of}
+use Rattle.x64_syntax.specs.declared.places.Place.{Place}
+use Rattle.x64_syntax.specs.declared.places.Place.TheVariants.{Reg, Flag}
+use Rattle.x64_syntax.specs.declared.instructions.Ins.{Ins}
+use Rattle.x64_syntax.specs.Places.{place_name}
+use Rattle.term_core.specs.declared.term.BinOp.TheVariants as bin
+use Rattle.term_core.specs.Terms.{Tm, Name, Bin, W64}
+use Rattle.term_core.specs.Value.{True}
+use Rattle.x64_meaning.specs.State.{place_sort}
+use Rattle.x64_meaning.specs.Exp.{Exp, exp_term, among}
+use Rattle.x64_meaning.specs.Table.{Equation, equations, writes, reads, loads_from}
+
+-- which version of each place is present
+abbrev pub Versions : Type 0
+Versions = Place → ℕ
+
+-- the name of a place's value at a version, as `rax.0`
+abbrev pub version_name : Place → ℕ → List ℕ
+version_name p k = place_name p ++ (46 ∷ decimal k)
+
+abbrev pub version : Place → ℕ → Tm
+version p k = Name (version_name p k) (place_sort p)
+
+-- each written place takes its next version
+abbrev pub next_versions : Versions → List Place → Versions
+next_versions v places p = if among places p then v p + 1 else v p
+
+-- an equation of an instruction, over the present versions and the next ones
+abbrev pub hypothesis : Versions → Equation → Tm
+hypothesis v e =
+    Bin bin.Eq (version e.place (v e.place + 1))
+    (exp_term (λ p. version p (v p)) (λ p. version p (v p + 1)) (W64 0) e.right)
+
+abbrev pub hypotheses : Versions → List Ins → List Tm
+hypotheses v [] = []
+hypotheses v (i ∷ is) = map (hypothesis v) (equations i) ++ hypotheses (next_versions v (writes i)) is
+
+abbrev pub end_versions : Versions → List Ins → Versions
+end_versions v [] = v
+end_versions v (i ∷ is) = end_versions (next_versions v (writes i)) is
+
+abbrev pub first_versions : Versions
+first_versions p = 0
+
+-- what the instructions' equations are to prove: the expression over the first and the last versions
+abbrev pub straight_hyps : List Ins → List Tm
+straight_hyps is = hypotheses first_versions is
+
+abbrev pub straight_goal : List Ins → Exp → Tm
+straight_goal is e =
+    exp_term (λ p. version p 0) (λ p. version p (end_versions first_versions is p)) (W64 0) e
+
+-- an instruction that neither loads nor reads a flag
+abbrev pub is_plain : Ins → Bool
+is_plain i =
+    is_none (loads_from i)
+    && not (reads i (Flag Cf)) && not (reads i (Flag Zf)) && not (reads i (Flag Sf)) && not (reads i (Flag Of))

@@ -1,0 +1,6 @@
+pub mod State
+pub mod Exp
+pub mod Table
+pub mod Run
+pub mod Contract
+pub mod Condition

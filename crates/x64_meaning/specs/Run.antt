@@ -1,0 +1,146 @@
+-- What one instruction does, and runs of flat code.
+use Rattle.std.specs.Prelude.{ℕ, zero, suc, ◌+◌, ◌*◌, ◌%◌, Bool, true, false, not, ◌&&◌, ◌||◌, ◌==◌, List, [], ◌∷◌, ◌++◌, Option, Some, None, slice_get, position, if◌then◌else◌}
+use Rattle.std.specs.List.{find}
+use Rattle.x64_syntax.specs.declared.places.Reg.{Reg as GeneralReg}
+use Rattle.x64_syntax.specs.declared.places.FlagName.{FlagName}
+use Rattle.x64_syntax.specs.declared.places.FlagName.TheVariants.{Cf, Zf, Sf, Of}
+use Rattle.x64_syntax.specs.declared.places.Place.TheVariants.{Flag}
+use Rattle.x64_syntax.specs.declared.operands.Mem.{Mem}
+use Rattle.x64_syntax.specs.declared.instructions.Ins.{Ins}
+use Rattle.x64_syntax.specs.declared.items.Cond.{Cond}
+use Rattle.x64_syntax.specs.declared.items.Cond.TheVariants.{E, Ne, B, Be, A, Ae}
+use Rattle.x64_syntax.specs.declared.items.Item.{Item}
+use Rattle.x64_syntax.specs.declared.items.Item.TheVariants as item
+use Rattle.term_core.specs.Value.{T, Word}
+use Rattle.x64_meaning.specs.declared.machine.Flag.{Flag as FlagValue}
+use Rattle.x64_meaning.specs.declared.machine.Flag.TheVariants.{Zero, One, Undefined}
+use Rattle.x64_meaning.specs.declared.machine.Obs.{Obs}
+use Rattle.x64_meaning.specs.declared.machine.Obs.TheVariants.{Access, Branch}
+use Rattle.x64_meaning.specs.declared.machine.Fault.{Fault}
+use Rattle.x64_meaning.specs.declared.machine.Fault.TheVariants.{Outside, UndefinedFlag}
+use Rattle.x64_meaning.specs.State.{State, flag, reg, load}
+use Rattle.x64_meaning.specs.Table.{equations, apply, reads, loads_from, word_of}
+
+-- scale * index, or 0 where there is no index
+abbrev pub scaled : State → Option (GeneralReg × ℕ) → ℕ
+scaled s None = 0
+scaled s (Some i) = i.1 * reg s i.0
+
+abbrev pub address : State → Mem → ℕ
+address s m = (reg s m.base + scaled s m.index + word_of m.disp) % T
+
+abbrev pub is_undefined : FlagValue → Bool
+is_undefined Zero = false
+is_undefined One = false
+is_undefined Undefined = true
+
+-- the first of the flags that is read and undefined
+abbrev pub first_undefined : (FlagName → Bool) → State → Option FlagName
+first_undefined is_read s = find (λ f. is_read f && is_undefined (flag s f)) (Cf ∷ Zf ∷ Sf ∷ Of ∷ [])
+
+-- what a step leaves and what an observer sees of it, or why it can't be made
+pub data Outcome : Type 0 where
+  Done : State → List Obs → Outcome
+  Faulted : Fault → Outcome
+
+-- the state after, by what is loaded
+abbrev pub after : State → ℕ → Ins → State
+after s loaded i = apply s (Word loaded) (equations i) s
+
+abbrev pub with_loaded : State → Ins → ℕ → Option ℕ → Outcome
+with_loaded s i a None = Faulted (Outside a)
+with_loaded s i a (Some n) = Done (after s n i) (Access a 8 false ∷ [])
+
+abbrev pub with_memory : State → Ins → Option Mem → Outcome
+with_memory s i None = Done (after s 0 i) []
+with_memory s i (Some m) = with_loaded s i (address s m) (load s (address s m) 8)
+
+abbrev pub with_flags : State → Ins → Option FlagName → Outcome
+with_flags s i (Some f) = Faulted (UndefinedFlag f)
+with_flags s i None = with_memory s i (loads_from i)
+
+-- What an instruction does: an undefined flag that it reads is a fault, and so is an access that no block holds;
+-- else each place on the left of its equations gets the value on the right, and no other place differs.
+abbrev pub does : Ins → State → Outcome
+does i s = with_flags s i (first_undefined (λ f. reads i (Flag f)) s)
+
+-- the flags that a condition reads, in order
+abbrev pub cond_flags : Cond → List FlagName
+cond_flags E = Zf ∷ []
+cond_flags Ne = Zf ∷ []
+cond_flags B = Cf ∷ []
+cond_flags Ae = Cf ∷ []
+cond_flags Be = Cf ∷ Zf ∷ []
+cond_flags A = Cf ∷ Zf ∷ []
+
+abbrev pub is_one : FlagValue → Bool
+is_one Zero = false
+is_one One = true
+is_one Undefined = false
+
+-- whether a condition holds
+abbrev pub cond_holds : Cond → State → Bool
+cond_holds E s = is_one (flag s Zf)
+cond_holds Ne s = not (is_one (flag s Zf))
+cond_holds B s = is_one (flag s Cf)
+cond_holds Ae s = not (is_one (flag s Cf))
+cond_holds Be s = is_one (flag s Cf) || is_one (flag s Zf)
+cond_holds A s = not (is_one (flag s Cf)) && not (is_one (flag s Zf))
+
+-- the state of a run, what was seen so far, and how many steps were made
+pub record Way : Type 0 where
+  pub state : State
+  pub seen : List Obs
+  pub steps : ℕ
+
+abbrev pub start : State → Way
+start s = record { state = s; seen = []; steps = 0 }
+
+-- one more step
+abbrev pub stepped : Way → State → List Obs → Way
+stepped w s seen = record { state = s; seen = w.seen ++ seen; steps = w.steps + 1 }
+
+-- how a run stands after at most so many steps
+pub data End : Type 0 where
+  Running : ℕ → Way → End
+  Ended : Way → End
+  Stopped : Fault → End
+  Past : End
+
+abbrev pub is_label : ℕ → Item → Bool
+is_label l (item.Label m) = l == m
+is_label l _ = false
+
+abbrev pub Next : Type 0
+Next = ℕ → Way → End
+
+-- goes on at a label
+abbrev pub at_label : Option ℕ → Next → Way → End
+at_label None next w = Past
+at_label (Some pos) next w = next pos w
+
+abbrev pub after_does : Outcome → Next → ℕ → Way → End
+after_does (Done s seen) next pos w = next (pos + 1) (stepped w s seen)
+after_does (Faulted f) next pos w = Stopped f
+
+-- a conditional jump, by the first flag that it reads and that is undefined, and by whether its condition holds
+abbrev pub branch : Option FlagName → Bool → Option ℕ → Next → ℕ → Way → End
+branch (Some f) holds target next pos w = Stopped (UndefinedFlag f)
+branch None true target next pos w = at_label target next (stepped w w.state (Branch true ∷ []))
+branch None false target next pos w = next (pos + 1) (stepped w w.state (Branch false ∷ []))
+
+-- one item, by what goes on behind it; labels and entries do nothing, and `ret` ends the run
+abbrev pub act : List Item → Option Item → Next → ℕ → Way → End
+act items None next pos w = Past
+act items (Some (item.Ins i)) next pos w = after_does (does i w.state) next pos w
+act items (Some (item.Label l)) next pos w = next (pos + 1) (stepped w w.state [])
+act items (Some (item.Entry name)) next pos w = next (pos + 1) (stepped w w.state [])
+act items (Some (item.Jmp l)) next pos w = at_label (position (is_label l) items) next (stepped w w.state [])
+act items (Some (item.Jcc c l)) next pos w =
+    branch (find (λ f. is_undefined (flag w.state f)) (cond_flags c)) (cond_holds c w.state) (position (is_label l) items) next pos w
+act items (Some item.Ret) next pos w = Ended (stepped w w.state [])
+
+-- at most so many steps from a position
+abbrev pub run : List Item → ℕ → Next
+run items zero pos w = Running pos w
+run items (suc n) pos w = act items (slice_get items pos) (run items n) pos w

@@ -1,0 +1,92 @@
+-- States of the machine: 16 words of 64 bits, 16 of 128 bits, four flags, and blocks of memory that lie apart.
+use Rattle.std.specs.Prelude.{◌≡◌, ℕ, zero, suc, ◌+◌, ◌-◌, ◌*◌, ◌^◌, ◌<◌, ◌≤◌, ℤ, pos, Bool, ◌&&◌, nat_le, List, [], ◌∷◌, length, take, drop, All, Option, slice_index, slice_index_or, slice_set}
+use Rattle.std.specs.List.{find}
+use Rattle.std.specs.Option.{option_map}
+use Rattle.x64_syntax.specs.declared.places.Reg.{Reg as GeneralReg}
+use Rattle.x64_syntax.specs.declared.places.Xmm.{Xmm as XmmReg}
+use Rattle.x64_syntax.specs.declared.places.FlagName.{FlagName}
+use Rattle.x64_syntax.specs.declared.places.Place.{Place}
+use Rattle.x64_syntax.specs.declared.places.Place.TheVariants.{Reg, Xmm, Flag}
+use Rattle.x64_syntax.specs.Places.{reg_number, xmm_number, flag_number}
+use Rattle.term_core.specs.declared.term.Sort.{Sort}
+use Rattle.term_core.specs.declared.term.Sort.TheVariants as sort
+use Rattle.term_core.specs.Value.{T, T128, Val, Whole, Word, Wide, whole, word, wide}
+use Rattle.x64_meaning.specs.declared.machine.Flag.{Flag as FlagValue}
+use Rattle.x64_meaning.specs.declared.machine.Flag.TheVariants.{Zero, One, Undefined}
+
+-- bytes that lie one after another from an address on
+pub record Block : Type 0 where
+  pub base : ℕ
+  pub bytes : List ℕ
+
+pub record State : Type 0 where
+  pub regs : List ℕ
+  pub xmms : List ℕ
+  pub flags : List FlagValue
+  pub blocks : List Block
+
+-- the block of a number, and an empty one past the last
+abbrev pub block_at : State → ℕ → Block
+block_at s k = slice_index_or s.blocks k record { base = 0; bytes = [] }
+
+-- the address lies in the block
+pub record Covers (b : Block) (a : ℕ) : Type 0 where
+  pub from : b.base ≤ a
+  pub below : a < b.base + length b.bytes
+
+-- the numbers fit, blocks end at or below 2^64, and no address lies in two blocks
+pub record IsState (s : State) : Type 0 where
+  pub regs : length s.regs ≡ 16
+  pub regs_fit : (k : ℕ) → slice_index s.regs k < T
+  pub xmms : length s.xmms ≡ 16
+  pub xmms_fit : (k : ℕ) → slice_index s.xmms k < T128
+  pub flags : length s.flags ≡ 4
+  pub blocks_fit : (k : ℕ) → (block_at s k).base + length (block_at s k).bytes ≤ T
+  pub bytes_fit : (k i : ℕ) → slice_index (block_at s k).bytes i < 256
+  pub apart : (a j k : ℕ) → Covers (block_at s j) a → Covers (block_at s k) a → j ≡ k
+
+abbrev pub flag_number_of : FlagValue → ℕ
+flag_number_of Zero = 0
+flag_number_of One = 1
+flag_number_of Undefined = 2
+
+-- 0 and 1, and undefined for any other number
+abbrev pub flag_from : ℤ → FlagValue
+flag_from (pos zero) = Zero
+flag_from (pos (suc zero)) = One
+flag_from _ = Undefined
+
+abbrev pub reg : State → GeneralReg → ℕ
+reg s r = slice_index s.regs (reg_number r)
+
+abbrev pub flag : State → FlagName → FlagValue
+flag s f = slice_index_or s.flags (flag_number f) Undefined
+
+-- the sort of what a place holds; a flag is a whole number: 0, 1, or 2 where it is undefined
+abbrev pub place_sort : Place → Sort
+place_sort (Reg r) = sort.W64
+place_sort (Xmm x) = sort.W128
+place_sort (Flag f) = sort.Int
+
+abbrev pub read : State → Place → Val
+read s (Reg r) = Word (reg s r)
+read s (Xmm x) = Wide (slice_index s.xmms (xmm_number x))
+read s (Flag f) = Whole (pos (flag_number_of (flag s f)))
+
+abbrev pub write : State → Place → Val → State
+write s (Reg r) v = record s { regs = slice_set s.regs (reg_number r) (word v) }
+write s (Xmm x) v = record s { xmms = slice_set s.xmms (xmm_number x) (wide v) }
+write s (Flag f) v = record s { flags = slice_set s.flags (flag_number f) (flag_from (whole v)) }
+
+-- a block holds all bytes of an access
+abbrev pub holds : ℕ → ℕ → Block → Bool
+holds a size b = nat_le b.base a && nat_le (a + size) (b.base + length b.bytes)
+
+-- the number whose lowest byte is the first
+abbrev pub le_number : List ℕ → ℕ
+le_number [] = 0
+le_number (b ∷ bs) = b + 256 * le_number bs
+
+-- the little-endian number in the bytes of an access, where one block holds them all
+abbrev pub load : State → ℕ → ℕ → Option ℕ
+load s a size = option_map (λ b. le_number (take size (drop (a - b.base) b.bytes))) (find (holds a size) s.blocks)

@@ -1,0 +1,4 @@
+// Laws over the definitions, which the layers above cite.
+
+/// Straight code.
+pub fn straight_code() {}

@@ -1,0 +1,9 @@
+//! What instructions do: the states of the machine, the table of instructions, runs of flat code, and what it means
+//! that code meets a contract.
+#![tactic(auto)]
+
+mod laws;
+mod machine;
+
+pub use laws::straight_code;
+pub use machine::{Fault, Flag, Obs};
