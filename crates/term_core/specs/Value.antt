@@ -1,5 +1,6 @@
 -- What a term is worth: whole numbers without bounds, words modulo 2^64.
-use Rattle.std.specs.Prelude.{◌≡◌, ℕ, ◌+◌, ◌%◌, ◌^◌, ℤ, pos, ◌+ℤ◌, int_le, List, Bool, true, false, ◌==◌, if◌then◌else◌, bit_and, bit_xor, All}
+use Rattle.std.specs.Prelude.{◌≡◌, ℕ, ◌+◌, ◌%◌, ◌^◌, ℤ, pos, ◌+ℤ◌, int_le, List, Bool, true, false, ◌==◌, if◌then◌else◌, bit_and, bit_xor}
+use Rattle.std.specs.List.{AllByRecursion}
 use Rattle.std.specs.Ordering.{int_eq}
 use Rattle.term_core.specs.declared.term.Sort.{Sort}
 use Rattle.term_core.specs.declared.term.Sort.TheVariants as sort
@@ -87,4 +88,4 @@ Holds a t = value a t ≡ Truth true
 
 -- each assignment that makes all hypotheses true makes the goal true
 abbrev pub True : List Tm → Tm → Type 0
-True hyps goal = (a : Assignment) → All (Holds a) hyps → Holds a goal
+True hyps goal = (a : Assignment) → AllByRecursion (Holds a) hyps → Holds a goal

@@ -69,18 +69,18 @@ suits_stored b a m sorted (Flag f) (Ite c (Int (pos x)) (Int (pos y))) h =
 suits_stored b a m sorted (Flag f) (Int (pos x)) h = ap (λ n. Whole (pos n)) (sym (small_flag x h))
 suits_stored b a m sorted _ _ h = absurd (false≢true h)
 
-not_true : (b : Bool) → not b ≡ true → b ≡ false
+pub not_true : (b : Bool) → not b ≡ true → b ≡ false
 not_true true h = absurd (false≢true h)
 not_true false h = refl
 
 -- what is asked of equations that come in order
-record Order (done : List Place) (e : Equation) (es : List Equation) : Type 0 where
-  stored : suits e.place e.right ≡ true
-  taken : knows done e.right ≡ true
-  new : among done e.place ≡ false
-  rest : in_order (e.place ∷ done) es ≡ true
+pub record Order (done : List Place) (e : Equation) (es : List Equation) : Type 0 where
+  pub stored : suits e.place e.right ≡ true
+  pub taken : knows done e.right ≡ true
+  pub new : among done e.place ≡ false
+  pub rest : in_order (e.place ∷ done) es ≡ true
 
-order_of : (done : List Place) (e : Equation) (es : List Equation) → in_order done (e ∷ es) ≡ true → Order done e es
+pub order_of : (done : List Place) (e : Equation) (es : List Equation) → in_order done (e ∷ es) ≡ true → Order done e es
 order_of done e es h =
     let a = and_parts (suits e.place e.right) _ h in
     let b = and_parts (knows done e.right) _ a.1 in
@@ -91,14 +91,14 @@ order_of done e es h =
 abbrev pub places : List Equation → List Place
 places es = map (λ e. e.place) es
 
-among_tail : (ps : List Place) (p q : Place) → among ps p ≡ true → among (q ∷ ps) p ≡ true
+pub among_tail : (ps : List Place) (p q : Place) → among ps p ≡ true → among (q ∷ ps) p ≡ true
 among_tail ps p q h = either (place_eq p q)
   where
   either : (b : Bool) → (b || among ps p) ≡ true
   either true = refl
   either false = h
 
-among_head : (ps : List Place) (q : Place) → among (q ∷ ps) q ≡ true
+pub among_head : (ps : List Place) (q : Place) → among (q ∷ ps) q ≡ true
 among_head ps q = ap (λ b. b || among ps q) (place_eq_same q)
 
 -- what is read of a place that was written already isn't changed by the rest
@@ -158,3 +158,22 @@ apply-equations before m ok sm done (e ∷ es) now okn h =
       ∙ same
     , apply-equations before m ok sm (e.place ∷ done) es now' (write-IsState now e.place v okn) o.rest
     )
+
+-- the equations of every instruction come in order
+operand_known : (s : Opr) → knows [] (source s) ≡ true
+operand_known (R r) = refl
+operand_known (Imm z) = refl
+operand_known (M m) = refl
+
+operand_sort : (s : Opr) → exp_sort (source s) ≡ sort.W64
+operand_sort (R r) = refl
+operand_sort (Imm z) = refl
+operand_sort (M m) = refl
+
+pub equations-in_order : (i : Ins) → in_order [] (equations i) ≡ true
+equations-in_order (Mov d (R r)) = refl
+equations-in_order (Mov d (Imm z)) = refl
+equations-in_order (Mov d (M m)) = refl
+equations-in_order (Alu Add d (R r)) = rw (reg_eq_same d) refl
+equations-in_order (Alu Add d (Imm z)) = rw (reg_eq_same d) refl
+equations-in_order (Alu Add d (M m)) = rw (reg_eq_same d) refl

@@ -59,6 +59,17 @@ exp_value-same b1 b2 a1 a2 m known sb sa (Ite c e f) k =
     let rest = and_parts (knows known e) (knows known f) first.1 in
     rw (exp_value-same b1 b2 a1 a2 m known sb sa c first.0, exp_value-same b1 b2 a1 a2 m known sb sa e rest.0, exp_value-same b1 b2 a1 a2 m known sb sa f rest.1) refl
 
+-- the same where all places agree
+pub exp_value-all : (b1 b2 a1 a2 : Place → Val) (m : Val) → ((p : Place) → b1 p ≡ b2 p) → ((p : Place) → a1 p ≡ a2 p) → (e : Exp) → exp_value b1 a1 m e ≡ exp_value b2 a2 m e
+exp_value-all b1 b2 a1 a2 m sb sa (Before p) = sb p
+exp_value-all b1 b2 a1 a2 m sb sa (After p) = sa p
+exp_value-all b1 b2 a1 a2 m sb sa Loaded = refl
+exp_value-all b1 b2 a1 a2 m sb sa (Int z) = refl
+exp_value-all b1 b2 a1 a2 m sb sa (W64 n) = refl
+exp_value-all b1 b2 a1 a2 m sb sa (Un op e) = ap (un_value op) (exp_value-all b1 b2 a1 a2 m sb sa e)
+exp_value-all b1 b2 a1 a2 m sb sa (Bin op e f) = rw (exp_value-all b1 b2 a1 a2 m sb sa e, exp_value-all b1 b2 a1 a2 m sb sa f) refl
+exp_value-all b1 b2 a1 a2 m sb sa (Ite c e f) = rw (exp_value-all b1 b2 a1 a2 m sb sa c, exp_value-all b1 b2 a1 a2 m sb sa e, exp_value-all b1 b2 a1 a2 m sb sa f) refl
+
 -- a value that is one of its sort
 abbrev pub IsOf : Sort → Val → Type 0
 IsOf s v = cast s v ≡ v

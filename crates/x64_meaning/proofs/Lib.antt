@@ -1,3 +1,5 @@
 pub mod Reading
 pub mod Exps
 pub mod Apply
+pub mod Names
+pub mod Straight

@@ -1,16 +1,19 @@
 -- The hypotheses that straight code gives, and what is to follow from them.
-use Rattle.std.specs.Prelude.{◌≡◌, ◌≢◌, ℕ, zero, suc, ◌+◌, ◌<◌, ◌^◌, Bool, true, not, ◌&&◌, List, [], ◌∷◌, ◌++◌, map, Option, Some, None, decimal, length, is_none, if◌then◌else◌}
-use Rattle.std.specs.List.{list_any}
+use Rattle.std.specs.Prelude.{◌≡◌, ◌≢◌, ℕ, zero, suc, ◌+◌, ◌<◌, ◌^◌, Bool, true, false, not, ◌&&◌, List, [], ◌∷◌, ◌++◌, map, Option, Some, None, decimal, length, is_none, if◌then◌else◌}
+use Rattle.std.specs.List.{list_all, AllByRecursion}
 use Rattle.x64_syntax.specs.declared.places.Reg.TheVariants.{Rsp}
 use Rattle.x64_syntax.specs.declared.places.FlagName.{FlagName}
 use Rattle.x64_syntax.specs.declared.places.FlagName.TheVariants.{Cf, Zf, Sf, Of}
 use Rattle.x64_syntax.specs.declared.places.Place.{Place}
 use Rattle.x64_syntax.specs.declared.places.Place.TheVariants.{Reg, Flag}
 use Rattle.x64_syntax.specs.declared.instructions.Ins.{Ins}
+use Rattle.x64_syntax.specs.declared.items.Item.{Item}
+use Rattle.x64_syntax.specs.declared.items.Item.TheVariants as item
 use Rattle.x64_syntax.specs.Places.{place_name}
 use Rattle.term_core.specs.declared.term.BinOp.TheVariants as bin
 use Rattle.term_core.specs.Terms.{Tm, Name, Bin, W64}
 use Rattle.term_core.specs.Value.{True}
+use Rattle.x64_meaning.specs.Contract.{Contract}
 use Rattle.x64_meaning.specs.State.{place_sort}
 use Rattle.x64_meaning.specs.Exp.{Exp, exp_term, among}
 use Rattle.x64_meaning.specs.Table.{Equation, equations, writes, reads, loads_from}
@@ -60,3 +63,20 @@ abbrev pub is_plain : Ins → Bool
 is_plain i =
     is_none (loads_from i)
     && not (reads i (Flag Cf)) && not (reads i (Flag Zf)) && not (reads i (Flag Sf)) && not (reads i (Flag Of))
+
+-- no instruction of straight code writes the place
+abbrev pub unwritten : List Ins → Place → Bool
+unwritten is p = list_all (λ i. not (among (writes i) p)) is
+
+-- straight code as flat items: its entry, its instructions and `ret`
+abbrev pub straight_items : List ℕ → List Ins → List Item
+straight_items name is = item.Entry name ∷ (map item.Ins is ++ item.Ret ∷ [])
+
+-- What is asked of straight code for a contract: its instructions are plain, it writes declared places only and not rsp,
+-- and each promise follows from its equations.
+pub record StraightFits (is : List Ins) (c : Contract) : Type 0 where
+  pub plain : list_all is_plain is ≡ true
+  pub short : length is < 2 ^ 64
+  pub declared : (p : Place) → c.modifies p ≡ false → unwritten is p ≡ true
+  pub rsp : c.modifies (Reg Rsp) ≡ false
+  pub proved : AllByRecursion (λ e. True (straight_hyps is) (straight_goal is e)) c.ensures_

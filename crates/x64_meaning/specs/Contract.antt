@@ -1,5 +1,6 @@
 -- Contracts, and what it means that code meets one.
-use Rattle.std.specs.Prelude.{◌≡◌, ◌≢◌, ℕ, Bool, true, false, List, All}
+use Rattle.std.specs.Prelude.{◌≡◌, ◌≢◌, ℕ, Bool, true, false, List}
+use Rattle.std.specs.List.{AllByRecursion}
 use Rattle.x64_syntax.specs.declared.places.Reg.TheVariants.{Rsp}
 use Rattle.x64_syntax.specs.declared.places.FlagName.{FlagName}
 use Rattle.x64_syntax.specs.declared.places.Place.{Place}
@@ -25,12 +26,12 @@ Worth before after e = exp_value before after (Word 0) e ≡ Truth true
 
 -- what a start has to meet: the requirements hold, and flags that are read are defined
 pub record Pre (c : Contract) (s : State) : Type 0 where
-  pub holds : All (Worth (read s) (read s)) c.requires_
+  pub holds : AllByRecursion (Worth (read s) (read s)) c.requires_
   pub defined : (f : FlagName) → c.reads (Flag f) ≡ true → flag s f ≢ Undefined
 
 -- what the end meets, from its start: the promises hold, and rsp is as before
 pub record Post (c : Contract) (s t : State) : Type 0 where
-  pub holds : All (Worth (read s) (read t)) c.ensures_
+  pub holds : AllByRecursion (Worth (read s) (read t)) c.ensures_
   pub rsp : reg t Rsp ≡ reg s Rsp
 
 -- only declared places change

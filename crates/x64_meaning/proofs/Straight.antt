@@ -1,0 +1,255 @@
+-- Straight code: an assignment makes all its equations true and names its end.
+use Rattle.std.proofs.Common.{◌≡◌, ◌≢◌, ℕ, zero, suc, ◌+◌, ◌<◌, ◌≤◌, ◌^◌, Bool, true, false, not, List, [], ◌∷◌, ◌++◌, length, refl, sym, ap, ◌∙◌, subst, arith, ◌&&◌, ◌||◌, cond, ℤ, pos, append_assoc}
+use Rattle.std.specs.Prelude.{nat_le, map, All, Option, Some, None, is_none, slice_get, if◌then◌else◌}
+use Rattle.std.specs.List.{AllByRecursion, list_all}
+use Rattle.std.proofs.Common.{length-append}
+use Rattle.std.proofs.Math.Seq.{get_or-append_seam}
+use Rattle.std.proofs.lemmas.Option.{slice_get-get_or}
+use Rattle.std.proofs.lemmas.Bool.{and_parts, false≢true, eq-eqb}
+use Rattle.std.specs.Ordering.{int_eq}
+use Rattle.std.specs.Cmp.{signed_Decides}
+use Rattle.x64_syntax.specs.declared.places.Reg.TheVariants.{Rsp}
+use Rattle.x64_syntax.specs.declared.places.FlagName.{FlagName}
+use Rattle.x64_syntax.specs.declared.places.FlagName.TheVariants.{Cf, Zf, Sf, Of}
+use Rattle.x64_syntax.specs.declared.places.Place.{Place}
+use Rattle.x64_syntax.specs.declared.places.Place.TheVariants.{Reg, Xmm, Flag}
+use Rattle.x64_syntax.specs.Places.{place_eq}
+use Rattle.x64_syntax.proofs.PlaceLemmas.{place_eq_is}
+use Rattle.x64_syntax.specs.declared.operands.Mem.{Mem}
+use Rattle.x64_syntax.specs.declared.instructions.Ins.{Ins}
+use Rattle.x64_syntax.specs.declared.items.Item.{Item}
+use Rattle.x64_syntax.specs.declared.items.Item.TheVariants as item
+use Rattle.term_core.specs.declared.term.Sort.{Sort}
+use Rattle.term_core.specs.declared.term.Sort.TheVariants as sort
+use Rattle.term_core.specs.declared.term.BinOp.TheVariants as bin
+use Rattle.term_core.specs.Terms.{Tm, Name, Bin, W64, tm_sort}
+use Rattle.term_core.specs.Value.{Val, Whole, Word, Wide, Truth, cast, val_eq, Assignment, value, Holds, True}
+use Rattle.x64_meaning.specs.State.{State, IsState, place_sort, read, reg}
+use Rattle.x64_meaning.specs.Exp.{Exp, exp_value, exp_term, among, knows}
+use Rattle.x64_meaning.specs.Table.{Equation, equations, writes, apply, reads, loads_from, in_order}
+use Rattle.x64_meaning.specs.Run.{after, does, with_flags, first_undefined, Outcome, Done, Way, start, stepped, End, Ended, run, act, after_does}
+use Rattle.x64_meaning.specs.Contract.{Contract, Worth, Pre, Post, Frame, Meets}
+use Rattle.x64_meaning.specs.Condition.{Versions, version, version_name, next_versions, hypothesis, hypotheses, end_versions, first_versions, straight_hyps, straight_goal, is_plain, unwritten, straight_items, StraightFits}
+use Rattle.x64_meaning.proofs.Reading.{read-sorted}
+use Rattle.x64_meaning.proofs.Exps.{exp_term-value, exp_value-same, exp_value-all}
+use Rattle.x64_meaning.proofs.Apply.{apply-other, apply-IsState, apply-blocks, apply-equations, equations-in_order, Equal, Order, not_true, order_of, places, among_head, among_tail}
+use Rattle.x64_meaning.proofs.Names.{place_in, version_in, place_in-version_name, version_in-version_name}
+
+-- the state after an instruction that loads nothing
+abbrev next : State → Ins → State
+next s i = after s 0 i
+
+-- the state after straight code
+abbrev pub end_of : State → List Ins → State
+end_of s [] = s
+end_of s (i ∷ is) = end_of (next s i) is
+
+next-IsState : (s : State) (i : Ins) → IsState s → IsState (next s i)
+next-IsState s i ok = apply-IsState s (Word 0) (equations i) s ok
+
+-- what a place holds at the version that comes so many writes later
+value_at : List Ins → State → Place → ℕ → Val
+value_at [] s p k = read s p
+value_at (i ∷ is) s p zero = read s p
+value_at (i ∷ is) s p (suc k) = if among (writes i) p then value_at is (next s i) p k else value_at is (next s i) p (suc k)
+
+value_at-zero : (is : List Ins) (s : State) (p : Place) → value_at is s p 0 ≡ read s p
+unfolding value_at
+value_at-zero [] s p = refl
+value_at-zero (i ∷ is) s p = refl
+
+chosen_sorted : (s : Sort) (b : Bool) (v w : Val) → cast s v ≡ v → cast s w ≡ w → cast s (cond b v w) ≡ cond b v w
+chosen_sorted s true v w h k = h
+chosen_sorted s false v w h k = k
+
+value_at-sorted : (is : List Ins) (s : State) (p : Place) (k : ℕ) → IsState s → cast (place_sort p) (value_at is s p k) ≡ value_at is s p k
+unfolding value_at
+value_at-sorted [] s p k ok = read-sorted s p ok
+value_at-sorted (i ∷ is) s p zero ok = read-sorted s p ok
+value_at-sorted (i ∷ is) s p (suc k) ok =
+    let ok' = next-IsState s i ok in
+    chosen_sorted (place_sort p) (among (writes i) p) _ _ (value_at-sorted is (next s i) p k ok') (value_at-sorted is (next s i) p (suc k) ok')
+
+-- the assignment gives the versions the values of a run of the code
+record Follows (a : Assignment) (v : Versions) (is : List Ins) (s : State) : Type 0 where
+  names : (p : Place) (j : ℕ) → j ≤ length is → value a (version p (v p + j)) ≡ value_at is s p j
+
+follows-next : (a : Assignment) (v : Versions) (i : Ins) (is : List Ins) (s : State) → Follows a v (i ∷ is) s → Follows a (next_versions v (writes i)) is (next s i)
+unfolding value_at
+follows-next a v i is s f = record { names = λ p j le. either p j le (among (writes i) p) refl }
+  where
+  either : (p : Place) (j : ℕ) → j ≤ length is → (b : Bool) → among (writes i) p ≡ b → value a (version p (cond b (v p + 1) (v p) + j)) ≡ value_at is (next s i) p j
+  either p j le true w =
+      let e : v p + 1 + j ≡ v p + suc j = omega arith in
+      ap (λ n. value a (version p n)) e ∙ f.names p (suc j) (omega arith) ∙ ap (λ b. cond b (value_at is (next s i) p j) (value_at is (next s i) p (suc j))) w
+  either p zero le false w =
+      f.names p 0 (omega arith) ∙ sym (apply-other s (Word 0) (equations i) s p w) ∙ sym (value_at-zero is (next s i) p)
+  either p (suc j) le false w =
+      f.names p (suc j) (omega arith) ∙ ap (λ b. cond b (value_at is (next s i) p j) (value_at is (next s i) p (suc j))) w
+
+-- the present versions and the next ones
+follows-now : (a : Assignment) (v : Versions) (is : List Ins) (s : State) → Follows a v is s → (p : Place) → value a (version p (v p)) ≡ read s p
+follows-now a v is s f p =
+    let e : v p ≡ v p + 0 = omega arith in
+    ap (λ n. value a (version p n)) e ∙ f.names p 0 (omega arith) ∙ value_at-zero is s p
+
+follows-written : (a : Assignment) (v : Versions) (i : Ins) (is : List Ins) (s : State) → Follows a v (i ∷ is) s → (p : Place) → among (writes i) p ≡ true → value a (version p (v p + 1)) ≡ read (next s i) p
+unfolding value_at
+follows-written a v i is s f p w =
+    f.names p 1 (omega arith) ∙ ap (λ b. cond b (value_at is (next s i) p 0) (value_at is (next s i) p 1)) w ∙ value_at-zero is (next s i) p
+
+int_eq_same : (z : ℤ) → int_eq z z ≡ true
+int_eq_same z = (signed_Decides z z).1 refl
+
+val_eq_same : (v : Val) → val_eq v v ≡ true
+val_eq_same (Whole z) = int_eq_same z
+val_eq_same (Truth true) = refl
+val_eq_same (Truth false) = refl
+val_eq_same (Word n) = eq-eqb n n refl
+val_eq_same (Wide n) = eq-eqb n n refl
+
+equal_holds : (v w : Val) → v ≡ w → Truth (val_eq v w) ≡ Truth true
+equal_holds v w h = ap Truth (ap (val_eq v) (sym h) ∙ val_eq_same v)
+
+-- the equations of one instruction hold under an assignment that follows a run
+equations_hold : (a : Assignment) (v : Versions) (s t : State) → ((p : Place) → value a (version p (v p)) ≡ read s p) → (done : List Place) (es : List Equation) → in_order done es ≡ true → ((p : Place) → among done p ≡ true → value a (version p (v p + 1)) ≡ read t p) → ((p : Place) → among (places es) p ≡ true → value a (version p (v p + 1)) ≡ read t p) → AllByRecursion (Equal (read s) (read t) (Word 0)) es → AllByRecursion (Holds a) (map (hypothesis v) es)
+equations_hold a v s t now done [] h in_done in_es eq = tt
+equations_hold a v s t now done (e ∷ es) h in_done in_es eq =
+    let o = order_of done e es h in
+    let term = exp_term-value (λ p. version p (v p)) (λ p. version p (v p + 1)) (W64 0) (λ p. refl) (λ p. refl) refl a e.right in
+    let same = exp_value-same (λ p. value a (version p (v p))) (read s) (λ p. value a (version p (v p + 1))) (read t) (Word 0) done now in_done e.right o.taken in
+    let right : value a (exp_term (λ p. version p (v p)) (λ p. version p (v p + 1)) (W64 0) e.right) ≡ exp_value (read s) (read t) (Word 0) e.right = term ∙ same in
+    ( equal_holds _ _ (in_es e.place (among_head (places es) e.place) ∙ eq.0 ∙ sym right)
+    , equations_hold a v s t now (e.place ∷ done) es o.rest (either e.place done in_done (in_es e.place (among_head (places es) e.place))) (λ p d. in_es p (among_tail (places es) p e.place d)) eq.1
+    )
+  where
+  either : (q : Place) (ps : List Place) → ((p : Place) → among ps p ≡ true → value a (version p (v p + 1)) ≡ read t p) → value a (version q (v q + 1)) ≡ read t q → (p : Place) → among (q ∷ ps) p ≡ true → value a (version p (v p + 1)) ≡ read t p
+  either q ps rest here p d = by_test (place_eq p q) refl d
+    where
+    by_test : (b : Bool) → place_eq p q ≡ b → (b || among ps p) ≡ true → value a (version p (v p + 1)) ≡ read t p
+    by_test true e d = subst (λ r. value a (version r (v r + 1)) ≡ read t r) (sym (place_eq_is p q e)) here
+    by_test false e d = rest p d
+
+all_append : {A : Type 0} (P : A → Type 0) (xs ys : List A) → AllByRecursion P xs → AllByRecursion P ys → AllByRecursion P (xs ++ ys)
+all_append P [] ys h k = k
+all_append P (x ∷ xs) ys h k = (h.0, all_append P xs ys h.1 k)
+
+-- all equations hold under it
+hypotheses_hold : (a : Assignment) (v : Versions) (is : List Ins) (s : State) → IsState s → Follows a v is s → AllByRecursion (Holds a) (hypotheses v is)
+hypotheses_hold a v [] s ok f = tt
+hypotheses_hold a v (i ∷ is) s ok f =
+    all_append (Holds a) (map (hypothesis v) (equations i)) (hypotheses (next_versions v (writes i)) is)
+      (equations_hold a v s (next s i) (follows-now a v (i ∷ is) s f) [] (equations i) (equations-in_order i)
+        (λ p d. absurd (false≢true d)) (follows-written a v i is s f)
+        (apply-equations s (Word 0) ok refl [] (equations i) s ok (equations-in_order i)))
+      (hypotheses_hold a (next_versions v (writes i)) is (next s i) (next-IsState s i ok) (follows-next a v i is s f))
+
+-- it names the end
+follows_end : (a : Assignment) (v : Versions) (is : List Ins) (s : State) → Follows a v is s → (p : Place) → value a (version p (end_versions v is p)) ≡ read (end_of s is) p
+follows_end a v [] s f p = follows-now a v [] s f p
+follows_end a v (i ∷ is) s f p = follows_end a (next_versions v (writes i)) is (next s i) (follows-next a v i is s f) p
+
+-- the assignment of a run
+assignment : List Ins → State → Assignment
+assignment is s name sort = value_at is s (place_in name) (version_in name)
+
+assignment-follows : (is : List Ins) (s : State) → IsState s → length is < 2 ^ 64 → Follows (assignment is s) first_versions is s
+unfolding assignment
+assignment-follows is s ok small = record { names = λ p j le. name p j le }
+  where
+  name : (p : Place) (j : ℕ) → j ≤ length is → value (assignment is s) (version p (first_versions p + j)) ≡ value_at is s p j
+  name p j le =
+      let e : first_versions p + j ≡ j = omega arith in
+      ap (λ n. value (assignment is s) (version p n)) e
+      ∙ ap (λ q. cast (place_sort p) (value_at is s q (version_in (version_name p j)))) (place_in-version_name p j)
+      ∙ ap (λ k. cast (place_sort p) (value_at is s p k)) (version_in-version_name p j (omega arith))
+      ∙ value_at-sorted is s p j ok
+
+-- What follows from the equations is true of a run.
+goal_true : (is : List Ins) (e : Exp) (s : State) → IsState s → length is < 2 ^ 64 → True (straight_hyps is) (straight_goal is e) → Worth (read s) (read (end_of s is)) e
+goal_true is e s ok small h =
+    let a = assignment is s in
+    let f = assignment-follows is s ok small in
+    let first : (p : Place) → value a (version p 0) ≡ read s p = follows-now a first_versions is s f in
+    let last : (p : Place) → value a (version p (end_versions first_versions is p)) ≡ read (end_of s is) p = follows_end a first_versions is s f in
+    let term = exp_term-value (λ p. version p 0) (λ p. version p (end_versions first_versions is p)) (W64 0) (λ p. refl) (λ p. refl) refl a e in
+    let holds = h a (hypotheses_hold a first_versions is s ok f) in
+    sym (exp_value-all _ _ _ _ (Word 0) first last e) ∙ sym term ∙ holds
+
+-- these items stand in the list from a position on
+abbrev HasAt : List Item → ℕ → List Item → Type 0
+HasAt items at [] = Unit {0}
+HasAt items at (i ∷ is) = (slice_get items at ≡ Some i) × HasAt items (at + 1) is
+
+has_all : (is front : List Item) → HasAt (front ++ is) (length front) is
+has_all [] front = tt
+has_all (i ∷ is) front =
+    let within : length front < length (front ++ i ∷ is) = omega (arith, length-append front (i ∷ is)) in
+    let here = slice_get-get_or (front ++ i ∷ is) (length front) i within ∙ ap Some (get_or-append_seam front i is i) in
+    let n : length (front ++ i ∷ []) ≡ length front + 1 = omega (arith, length-append front (i ∷ [])) in
+    let rest = has_all is (front ++ i ∷ []) in
+    let rest' = subst (λ l. HasAt l (length (front ++ i ∷ [])) is) (append_assoc front (i ∷ []) is) rest in
+    (here, subst (λ m. HasAt (front ++ i ∷ is) m is) n rest')
+
+-- what a plain instruction does
+plain_loads : (o : Option Mem) → is_none o ≡ true → o ≡ None
+plain_loads None h = refl
+plain_loads (Some m) h = absurd (false≢true h)
+
+plain_does : (i : Ins) (s : State) → is_plain i ≡ true → does i s ≡ Done (next s i) []
+plain_does i s h =
+    let p4 = and_parts _ _ h in
+    let p3 = and_parts _ _ p4.0 in
+    let p2 = and_parts _ _ p3.0 in
+    let p1 = and_parts _ _ p2.0 in
+    let cf : reads i (Flag Cf) ≡ false = not_true _ p1.1 in
+    let zf : reads i (Flag Zf) ≡ false = not_true _ p2.1 in
+    let sf : reads i (Flag Sf) ≡ false = not_true _ p3.1 in
+    let of : reads i (Flag Of) ≡ false = not_true _ p4.1 in
+    let none : loads_from i ≡ None = plain_loads _ p1.0 in
+    rw (cf, zf, sf, of, none) refl
+
+-- straight code runs to its end
+run_straight : (items : List Item) (is : List Ins) (at : ℕ) (w : Way) → list_all is_plain is ≡ true → HasAt items at (map item.Ins is ++ item.Ret ∷ []) → (n : ℕ) × (w' : Way) × (run items n at w ≡ Ended w') × (w'.state ≡ end_of w.state is)
+run_straight items [] at w plain has = (1, stepped w w.state [], ap (λ o. act items o (run items 0) at w) has.0, refl)
+run_straight items (i ∷ is) at w plain has =
+    let p = and_parts (is_plain i) (list_all is_plain is) plain in
+    let w1 = stepped w (next w.state i) [] in
+    let rest = run_straight items is (at + 1) w1 p.1 has.1 in
+    let step : run items (suc rest.0) at w ≡ run items rest.0 (at + 1) w1 =
+      ap (λ o. act items o (run items rest.0) at w) has.0 ∙ ap (λ d. after_does d (run items rest.0) at w) (plain_does i w.state p.0) in
+    (suc rest.0, rest.1, step ∙ rest.2, rest.3)
+
+-- a place that isn't written is as it was
+unwritten_same : (is : List Ins) (s : State) (p : Place) → unwritten is p ≡ true → read (end_of s is) p ≡ read s p
+unwritten_same [] s p h = refl
+unwritten_same (i ∷ is) s p h =
+    let b = and_parts (not (among (writes i) p)) (unwritten is p) h in
+    unwritten_same is (next s i) p b.1 ∙ apply-other s (Word 0) (equations i) s p (not_true _ b.0)
+
+blocks_same : (is : List Ins) (s : State) → (end_of s is).blocks ≡ s.blocks
+blocks_same [] s = refl
+blocks_same (i ∷ is) s = blocks_same is (next s i) ∙ apply-blocks s (Word 0) (equations i) s
+
+word_same : (m n : ℕ) → Word m ≡ Word n → m ≡ n
+word_same m n h = cc
+
+promises_hold : (es : List Exp) (is : List Ins) (s : State) → IsState s → length is < 2 ^ 64 → AllByRecursion (λ e. True (straight_hyps is) (straight_goal is e)) es → AllByRecursion (Worth (read s) (read (end_of s is))) es
+promises_hold [] is s ok small h = tt
+promises_hold (e ∷ es) is s ok small h = (goal_true is e s ok small h.0, promises_hold es is s ok small h.1)
+
+pub straight_meets : (name : List ℕ) (is : List Ins) (c : Contract) → StraightFits is c → Meets c (straight_items name is) 0
+straight_meets name is c fits s ok pre =
+    let items = straight_items name is in
+    let w0 = stepped (start s) s [] in
+    let body = map item.Ins is ++ item.Ret ∷ [] in
+    let has = has_all body (item.Entry name ∷ []) in
+    let r = run_straight items is 1 w0 fits.plain has in
+    let same : r.1.state ≡ end_of s is = r.3 in
+    let entry : run items (suc r.0) 0 (start s) ≡ run items r.0 1 w0 = refl in
+    let holds = promises_hold c.ensures_ is s ok fits.short fits.proved in
+    let others : (p : Place) → c.modifies p ≡ false → read (end_of s is) p ≡ read s p = λ p m. unwritten_same is s p (fits.declared p m) in
+    let rsp : reg (end_of s is) Rsp ≡ reg s Rsp = word_same _ _ (others (Reg Rsp) fits.rsp) in
+    let post : Post c s (end_of s is) = record { holds = holds; rsp = rsp } in
+    let frame : Frame c s (end_of s is) = record { blocks = blocks_same is s; others = others } in
+    (suc r.0, r.1, entry ∙ r.2, subst (Post c s) (sym same) post, subst (Frame c s) (sym same) frame)
