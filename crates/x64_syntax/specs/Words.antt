@@ -59,6 +59,9 @@ is_reserved_word case name =
     among case keywords name || among case kinds name || among case places name || among case built_in name
     || among case instructions name || is_numbered_word case (codes "slot") name
 
+abbrev pub is_reserved_name : List ℕ → Bool
+is_reserved_name name = is_reserved_word Exact name
+
 -- what an export may not be called, whatever the case of its letters
 unfoldable pub is_refused_export : List ℕ → Bool
 is_refused_export name =

@@ -16,4 +16,4 @@ pub use names::{flag_named, reg_named, xmm_named};
 pub use operands::{Mem, Opr};
 pub use places::{FlagName, Place, Reg, Xmm};
 pub use text::Text;
-pub use words::{is_export_name, is_name, is_reserved};
+pub use words::{is_digit, is_export_name, is_name, is_name_part, is_reserved};

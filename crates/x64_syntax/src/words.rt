@@ -2,7 +2,7 @@
 
 ghost use Rattle.std.specs.Prelude.{◌≡◌};
 ghost use Rattle.std.specs.List.{list_all, list_any};
-ghost use Rattle.x64_syntax.specs.Words.{same_text, among, is_digit_byte, is_letter_byte, is_name_byte, is_name_text, is_numbered_word, keywords, kinds, places, built_in, instructions, mnemonics, assembler_words, is_reserved_word, is_refused_export, is_export_text};
+ghost use Rattle.x64_syntax.specs.Words.{same_text, among, is_digit_byte, is_letter_byte, is_name_byte, is_name_text, is_numbered_word, keywords, kinds, places, built_in, instructions, mnemonics, assembler_words, is_reserved_word, is_reserved_name, is_refused_export, is_export_text};
 
 /// Whether upper and lower case are told apart.
 #[derive(Clone, Copy, Debug, PartialEq, Eq)]
@@ -353,7 +353,7 @@ pub fn is_name(text: &[u8]) -> bool
 
 /// Whether a name has a meaning of its own in a source, so that nothing may be declared under it.
 pub fn is_reserved(name: &[u8]) -> bool
-    ensures { result ≡ is_reserved_word Case.Exact name.now }
+    ensures { result ≡ is_reserved_name name.now }
 {
     is_reserved_in(Case::Exact, name)
 }
@@ -442,7 +442,8 @@ fn is_assembler_word(case: Case, name: &[u8]) -> bool
     is_among(&ASSEMBLER_WORDS, case, name)
 }
 
-fn is_digit(byte: u8) -> bool
+/// Whether a byte is a decimal digit.
+pub fn is_digit(byte: u8) -> bool
     ensures { result ≡ is_digit_byte byte }
 {
     b'0' <= byte && byte <= b'9'
@@ -460,7 +461,8 @@ fn is_letter(byte: u8) -> bool
     (b'a' <= byte && byte <= b'z') || (b'A' <= byte && byte <= b'Z') || byte == b'_'
 }
 
-fn is_word_byte(byte: u8) -> bool
+/// Whether a byte may stand in a name behind its first.
+pub fn is_name_part(byte: u8) -> bool
     ensures { result ≡ is_name_byte byte }
 {
     is_letter(byte) || is_digit(byte)
@@ -469,7 +471,7 @@ fn is_word_byte(byte: u8) -> bool
 fn are_word_bytes(bytes: &[u8]) -> bool
     ensures { result ≡ list_all is_name_byte bytes.now }
 {
-    bytes.iter().all(|byte| is_word_byte(*byte))
+    bytes.iter().all(|byte| is_name_part(*byte))
 }
 
 // Whether a word is the prefix and then one or more digits.

@@ -1,0 +1,8 @@
+//! The program: it reads a source and a certificate, checks that the one proves the other, and writes assembler text.
+#![tactic(auto)]
+
+mod reading;
+mod source;
+mod straight;
+
+pub use straight::Straight;
