@@ -208,7 +208,7 @@ fn tail<'a>(name: &[u8], bytes: &'a [u8]) -> Option<&'a [u8]>
 }
 
 // Whether nothing is left but a newline that may lack.
-fn is_end(bytes: &[u8]) -> bool
+pub(crate) fn is_end(bytes: &[u8]) -> bool
     ensures { result ≡ ends bytes.now }
 {
     match bytes {

@@ -1,0 +1,107 @@
+// The certificate, read byte by byte: one section with one `ring` step.
+
+ghost use Rattle.std.specs.Prelude.{◌≡◌, length};
+ghost use Rattle.std.specs.Option.{option_copied, option_map};
+ghost use Rattle.vale_driver.specs.Source.{Reads};
+ghost use Rattle.vale_driver.specs.Certificate.{pair_at, more_at, with_pairs, begins_pair, pairs_at, opening_at, certificate_at};
+
+use crate::reading::{after, number};
+use crate::source::{ReadFault, is_end};
+use std::alloc::Global;
+
+/// The highest number that a hypothesis of a source can have: the last of 4,096 statements with five each.
+const HYPOTHESIS_LIMIT: u64 = 20479;
+
+/// A hypothesis's number, and the factor that it counts with.
+pub(crate) type Pair = (usize, u64);
+
+/// The pairs of the certificate for a procedure of this name.
+#[tactic(auto, unfolding(crate::specs::Certificate::certificate_at))]
+pub(crate) fn read_certificate(
+    alloc: Global,
+    name: &[u8],
+    bytes: &[u8],
+) -> Result<Vec<Pair>, ReadFault>
+    ensures { Reads (λ v. v.items) (certificate_at name.now bytes.now) result }
+{
+    let Some(rest) = opening(name, bytes) else {
+        return Err(ReadFault::NotOfForm);
+    };
+    let (pairs, rest) = read_pairs(alloc, rest)?;
+    let Some(rest) = after(rest, b"]]") else {
+        return Err(ReadFault::NotOfForm);
+    };
+    if is_end(rest) {
+        Ok(pairs)
+    } else {
+        Err(ReadFault::NotOfForm)
+    }
+}
+
+#[tactic(auto, unfolding(crate::specs::Certificate::opening_at))]
+fn opening<'a>(name: &[u8], bytes: &'a [u8]) -> Option<&'a [u8]>
+    ensures { option_copied result ≡ opening_at name.now bytes.now }
+{
+    let rest = after(bytes, b"{\"condition\":\"")?;
+    let rest = after(rest, name)?;
+    after(rest, b"()#0\"}\n[\"ring\",[")
+}
+
+#[tactic(auto, unfolding(crate::specs::Certificate::pairs_at))]
+fn read_pairs(alloc: Global, bytes: &[u8]) -> Result<(Vec<Pair>, &[u8]), ReadFault>
+    ensures { Reads (λ x. (x.0.items, x.1.now)) (pairs_at bytes.now) result }
+{
+    let mut pairs = Vec::new(alloc);
+    if !begins_pair(bytes) {
+        return Ok((pairs, bytes));
+    }
+    let Some((first, rest)) = pair(bytes) else {
+        return Err(ReadFault::NotOfForm);
+    };
+    pairs.push(first)?;
+    more_pairs(pairs, rest)
+}
+
+// Further pairs, each behind a comma.
+fn more_pairs(first: Vec<Pair>, bytes: &[u8]) -> Result<(Vec<Pair>, &[u8]), ReadFault>
+    ensures { Reads (λ x. (x.0.items, x.1.now)) (with_pairs first.items (more_at (length bytes.now) bytes.now)) result }
+{
+    let mut pairs = first;
+    let mut rest = bytes;
+    for _ in 0..bytes.len() {
+        let Some(behind) = after(rest, b",") else {
+            return Ok((pairs, rest));
+        };
+        let Some((next, behind)) = pair(behind) else {
+            return Err(ReadFault::NotOfForm);
+        };
+        pairs.push(next)?;
+        rest = behind;
+    }
+    Ok((pairs, rest))
+}
+
+fn begins_pair(bytes: &[u8]) -> bool
+    ensures { result ≡ begins_pair bytes.now }
+{
+    match bytes {
+        [] => false,
+        [first, ..] => *first == b'[',
+    }
+}
+
+#[tactic(auto, unfolding(crate::specs::Certificate::pair_at))]
+fn pair(bytes: &[u8]) -> Option<(Pair, &[u8])>
+    ensures { option_map (λ x. (x.0, x.1.now)) result ≡ pair_at bytes.now }
+{
+    let rest = after(bytes, b"[")?;
+    let (hypothesis, rest) = number(rest)?;
+    let rest = after(rest, b",")?;
+    let (factor, rest) = number(rest)?;
+    let rest = after(rest, b"]")?;
+    if hypothesis <= HYPOTHESIS_LIMIT {
+        Some(((hypothesis as usize, factor), rest))
+    } else {
+        None
+    }
+}
