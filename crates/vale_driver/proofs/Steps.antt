@@ -16,16 +16,16 @@ append_nil : {A : Type 0} (xs : List A) → xs ++ [] ≡ xs
 append_nil [] = refl
 append_nil (x ∷ xs) = ap (λ ys. x ∷ ys) (append_nil xs)
 
-at_tail : (n : ℕ) (r : Reg) (bytes : List ℕ) → begins_tail bytes ≡ true → statements_at n r bytes ≡ Some ([], bytes)
+pub at_tail : (n : ℕ) (r : Reg) (bytes : List ℕ) → begins_tail bytes ≡ true → statements_at n r bytes ≡ Some ([], bytes)
 unfolding statements_at
 at_tail zero r bytes h = ap (λ b. given b ([], bytes)) h
 at_tail (suc n) r bytes h = ap (λ b. cond b (Some ([], bytes)) (statement_at r bytes >>= λ s. with_front (s.0 ∷ []) (statements_at n r s.1))) h
 
-at_statement : (n : ℕ) (r : Reg) (bytes : List ℕ) → begins_tail bytes ≡ false → statements_at (suc n) r bytes ≡ (statement_at r bytes >>= λ s. with_front (s.0 ∷ []) (statements_at n r s.1))
+pub at_statement : (n : ℕ) (r : Reg) (bytes : List ℕ) → begins_tail bytes ≡ false → statements_at (suc n) r bytes ≡ (statement_at r bytes >>= λ s. with_front (s.0 ∷ []) (statements_at n r s.1))
 unfolding statements_at
 at_statement n r bytes h = ap (λ b. cond b (Some ([], bytes)) (statement_at r bytes >>= λ s. with_front (s.0 ∷ []) (statements_at n r s.1))) h
 
-at_limit : (r : Reg) (bytes : List ℕ) → begins_tail bytes ≡ false → statements_at zero r bytes ≡ None
+pub at_limit : (r : Reg) (bytes : List ℕ) → begins_tail bytes ≡ false → statements_at zero r bytes ≡ None
 unfolding statements_at
 at_limit r bytes h = ap (λ b. given b ([], bytes)) h
 

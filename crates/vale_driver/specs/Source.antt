@@ -1,7 +1,7 @@
 -- The sources that are built, as texts.
 use Rattle.std.specs.Prelude.{◌≡◌, ◌≢◌, ℕ, zero, suc, ◌+◌, ◌-◌, ◌<◌, ◌≤◌, ◌^◌, ℤ, pos, negsuc, ◌≤ℤ◌, ◌<ℤ◌, Bool, true, false, not, ◌&&◌, ◌==◌, nat_le, List, [], ◌∷◌, ◌++◌, length, Option, Some, None, Result, Ok, Err, decimal, codes, if◌then◌else◌}
 use Rattle.std.specs.Fmt.{signed_decimal}
-use Rattle.std.specs.List.{AllByRecursion, flat_map}
+use Rattle.std.specs.List.{AllByRecursion}
 use Rattle.std.specs.Str.{bytes_eq}
 use Rattle.x64_syntax.specs.declared.places.Reg.{Reg}
 use Rattle.x64_syntax.specs.Places.{reg_name, reg_number}
@@ -32,9 +32,13 @@ pub record IsStraight (p : Straight) : Type 0 where
   pub total : p.total < 2 ^ 64
   pub export : is_export_text p.export ≡ true
 
--- one statement, as `Add64(rax, 1); `
-abbrev pub statement_text : Reg → ℤ → List ℕ
-statement_text r z = codes "Add64(" ++ (reg_name r ++ (codes ", " ++ (signed_decimal z ++ codes "); ")))
+-- one statement, as `Add64(rax, 1); `, and what follows
+abbrev pub statement_text : Reg → ℤ → List ℕ → List ℕ
+statement_text r z rest = codes "Add64(" ++ (reg_name r ++ (codes ", " ++ (signed_decimal z ++ (codes "); " ++ rest))))
+
+abbrev pub statements_text : Reg → List ℤ → List ℕ → List ℕ
+statements_text r [] rest = rest
+statements_text r (z ∷ zs) rest = statement_text r z (statements_text r zs rest)
 
 abbrev pub head_text : Straight → List ℕ → List ℕ
 head_text p rest =
@@ -44,9 +48,9 @@ head_text p rest =
 abbrev pub tail_text : Straight → List ℕ → List ℕ
 tail_text p rest = codes "} export " ++ (p.export ++ (codes " = " ++ (p.name ++ (codes "();" ++ rest))))
 
--- the text of a source, without its last newline
+-- the text of a source, and what follows
 abbrev pub spelling : Straight → List ℕ → List ℕ
-spelling p rest = head_text p (flat_map (statement_text p.register) p.amounts ++ tail_text p rest)
+spelling p rest = head_text p (statements_text p.register p.amounts (tail_text p rest))
 
 -- nothing, or a newline
 abbrev pub last : Bool → List ℕ
@@ -90,10 +94,10 @@ ensures_at r bytes = do
 unfoldable pub again_at : Reg → List ℕ → Option (List ℕ)
 again_at r bytes = modifies_at r bytes >>= ensures_at r
 
-abbrev pub name_at : List ℕ → Option (List ℕ × List ℕ)
+unfoldable pub name_at : List ℕ → Option (List ℕ × List ℕ)
 name_at bytes = given (is_name_text (span is_name_byte bytes).0 && not (is_reserved_name (span is_name_byte bytes).0)) (span is_name_byte bytes)
 
-abbrev pub export_at : List ℕ → Option (List ℕ × List ℕ)
+unfoldable pub export_at : List ℕ → Option (List ℕ × List ℕ)
 export_at bytes = given (is_export_text (span is_name_byte bytes).0) (span is_name_byte bytes)
 
 unfoldable pub head_at : List ℕ → Option (Head × List ℕ)

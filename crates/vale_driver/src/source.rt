@@ -96,6 +96,7 @@ fn read_head(bytes: &[u8]) -> Option<Head<'_>>
     })
 }
 
+#[tactic(auto, unfolding(crate::specs::Source::name_at))]
 fn name(bytes: &[u8]) -> Option<(&[u8], &[u8])>
     ensures { option_map (λ x. (x.0.now, x.1.now)) result ≡ name_at bytes.now }
 {
@@ -107,6 +108,7 @@ fn name(bytes: &[u8]) -> Option<(&[u8], &[u8])>
     }
 }
 
+#[tactic(auto, unfolding(crate::specs::Source::export_at))]
 fn export(bytes: &[u8]) -> Option<(&[u8], &[u8])>
     ensures { option_map (λ x. (x.0.now, x.1.now)) result ≡ export_at bytes.now }
 {

@@ -1,0 +1,278 @@
+-- What each piece that is read says of the text, and that a text in front of others is read again.
+use Rattle.std.proofs.Common.{◌≡◌, ℕ, zero, suc, ◌+◌, ◌-◌, ◌<◌, ◌≤◌, ◌^◌, ◌%◌, ◌/◌, ℤ, pos, negsuc, Bool, true, false, not, cond, List, [], ◌∷◌, ◌++◌, length, take, drop, Option, Some, None, refl, sym, ap, ◌∙◌, subst, arith, append_assoc, ◌&&◌, ◌||◌, decimal, eqb, ltb, leb}
+use Rattle.std.specs.Prelude.{codes, ◌==◌, ◌≤ℤ◌, ◌<ℤ◌}
+use Rattle.std.specs.Fmt.{signed_decimal}
+use Rattle.std.specs.List.{prefix_len, list_all, find}
+use Rattle.std.specs.Str.{bytes_eq}
+use Rattle.std.specs.Str.Parse.{digits_value}
+use Rattle.std.proofs.lemmas.Bool.{and_parts, and_from, false≢true, ltb-true, leb-true, lt-ltb, le-leb, ne_eqb}
+use Rattle.std.proofs.lemmas.Int.{ints}
+use Rattle.std.proofs.lemmas.Slice.Eq.{bytes_eq-Decides}
+use Rattle.std.proofs.lemmas.Fmt.{decimal_by_steps, decimal_nonempty}
+use Rattle.std.proofs.lemmas.List.{take-append-drop}
+use Rattle.std.proofs.Math.Seq.{take-append_seam, drop-append_seam}
+use Rattle.x64_syntax.specs.declared.places.Reg.{Reg}
+use Rattle.x64_syntax.specs.declared.places.Reg.TheVariants.{Rax, Rbx, Rcx, Rdx, Rsi, Rdi, Rbp, Rsp, R8, R9, R10, R11, R12, R13, R14, R15}
+use Rattle.x64_syntax.specs.declared.places.TheConstants.Reg.{ALL as ALL_REGS}
+use Rattle.x64_syntax.specs.Places.{reg_name, reg_of, reg_number}
+use Rattle.x64_syntax.specs.Words.{is_name_byte, is_digit_byte}
+use Rattle.vale_driver.specs.Reading.{◌>>=◌, given, strip, span, number_of, number_at, register_at, negative_at, positive_at, signed_after, signed_at}
+use Rattle.vale_driver.proofs.Numbers.{number_of-decimal}
+
+pub bind_some : {A B : Type 0} (o : Option A) (f : A → Option B) (y : B) → (o >>= f) ≡ Some y → (x : A) × (o ≡ Some x) × (f x ≡ Some y)
+bind_some None f y h = absurd cc
+bind_some (Some x) f y h = (x, refl, h)
+
+pub given_some : {A : Type 0} (b : Bool) (x y : A) → given b x ≡ Some y → (b ≡ true) × (x ≡ y)
+given_some true x y h = (refl, cc)
+given_some false x y h = absurd cc
+
+-- a literal that is read stands in front
+pub strip_is : (l bytes rest : List ℕ) → strip l bytes ≡ Some rest → bytes ≡ l ++ rest
+unfolding strip
+strip_is l bytes rest h =
+    let g = given_some _ _ _ h in
+    sym (take-append-drop (length l) bytes) ∙ ap (λ x. x ++ drop (length l) bytes) ((bytes_eq-Decides _ l).0 g.0) ∙ ap (λ x. l ++ x) g.1
+
+-- a literal in front is read
+pub strip_takes : (l rest : List ℕ) → strip l (l ++ rest) ≡ Some rest
+unfolding strip
+strip_takes l rest =
+    ap (λ b. given b (drop (length l) (l ++ rest))) ((bytes_eq-Decides _ l).1 (take-append_seam l rest))
+    ∙ ap Some (drop-append_seam l rest)
+
+pub takes : {B : Type 0} (l rest : List ℕ) (f : List ℕ → Option B) → (strip l (l ++ rest) >>= f) ≡ f rest
+takes l rest f = ap (λ o. o >>= f) (strip_takes l rest)
+
+-- no byte that passes the test stands in front
+abbrev pub stops : (ℕ → Bool) → List ℕ → Bool
+stops p [] = true
+stops p (b ∷ bs) = not (p b)
+
+prefix_len_stops : (p : ℕ → Bool) (rest : List ℕ) → stops p rest ≡ true → prefix_len p rest ≡ 0
+prefix_len_stops p [] h = refl
+prefix_len_stops p (b ∷ bs) h = by_test (p b) h
+  where
+  by_test : (t : Bool) → not t ≡ true → cond t (1 + prefix_len p bs) 0 ≡ 0
+  by_test true h = absurd (false≢true h)
+  by_test false h = refl
+
+prefix_len_front : (p : ℕ → Bool) (w rest : List ℕ) → list_all p w ≡ true → stops p rest ≡ true → prefix_len p (w ++ rest) ≡ length w
+prefix_len_front p [] rest h s = prefix_len_stops p rest s
+prefix_len_front p (b ∷ w) rest h s =
+    let both = and_parts (p b) (list_all p w) h in
+    let more = prefix_len_front p w rest both.1 s in
+    ap (λ t. cond t (1 + prefix_len p (w ++ rest)) 0) both.0 ∙ (omega arith)
+
+-- bytes that pass a test, in front of one that doesn't, are read as they are
+pub span_front : (p : ℕ → Bool) (w rest : List ℕ) → list_all p w ≡ true → stops p rest ≡ true → span p (w ++ rest) ≡ (w, rest)
+unfolding span
+span_front p w rest h s =
+    let n = prefix_len_front p w rest h s in
+    ap (λ k. (take k (w ++ rest), drop k (w ++ rest))) n ∙ ap (λ x. (x, drop (length w) (w ++ rest))) (take-append_seam w rest) ∙ ap (λ x. (w, x)) (drop-append_seam w rest)
+
+-- what is read and what is left is all of it
+pub span_whole : (p : ℕ → Bool) (bytes : List ℕ) → bytes ≡ (span p bytes).0 ++ (span p bytes).1
+unfolding span
+span_whole p bytes = sym (take-append-drop (prefix_len p bytes) bytes)
+
+list_all-append : (p : ℕ → Bool) (xs ys : List ℕ) → list_all p xs ≡ true → list_all p ys ≡ true → list_all p (xs ++ ys) ≡ true
+list_all-append p [] ys h k = k
+list_all-append p (x ∷ xs) ys h k =
+    let both = and_parts (p x) (list_all p xs) h in
+    and_from _ _ both.0 (list_all-append p xs ys both.1 k)
+
+one_digit : (d : ℕ) → d < 10 → is_digit_byte (48 + d) ≡ true
+one_digit d h = and_from _ _ (le-leb 48 (48 + d) (omega arith)) (le-leb (48 + d) 57 (omega arith))
+
+-- a number's text has digits alone
+pub digits-decimal : (n : ℕ) → n < 2 ^ 64 → list_all is_digit_byte (decimal n) ≡ true
+digits-decimal =
+    decimal_by_steps (λ n ds. list_all is_digit_byte ds ≡ true)
+      (λ n h. and_from _ _ (one_digit n h) refl)
+      (λ n ds h k. list_all-append is_digit_byte ds ((48 + n % 10) ∷ []) k (and_from _ _ (one_digit (n % 10) (omega arith)) refl))
+
+-- what a number that is read says
+pub number_is : (bytes rest : List ℕ) (n : ℕ) → number_at bytes ≡ Some (n, rest) → (bytes ≡ decimal n ++ rest) × (n < 2 ^ 64)
+unfolding number_at
+number_is bytes rest n h =
+    let s = span is_digit_byte bytes in
+    let b = bind_some (number_of s.0) _ _ h in
+    let m = b.0 in
+    let g = given_some _ _ _ b.1 in
+    let both = and_parts _ _ g.0 in
+    let text : decimal m ≡ s.0 = ap decimal (sym g.1) ∙ (bytes_eq-Decides _ s.0).0 both.1 in
+    let fits : m < 2 ^ 64 = subst (λ k. k < 2 ^ 64) g.1 (ltb-true _ _ both.0) in
+    let pair : Some (m, s.1) ≡ Some (n, rest) = b.2 in
+    let first : m ≡ n = ap (λ (o : Option (ℕ × List ℕ)). first_of o) pair in
+    let second : s.1 ≡ rest = ap (λ (o : Option (ℕ × List ℕ)). rest_of o) pair in
+    ( span_whole is_digit_byte bytes ∙ ap (λ x. x ++ s.1) (sym text) ∙ ap (λ x. decimal m ++ x) second ∙ ap (λ k. decimal k ++ rest) first
+    , subst (λ k. k < 2 ^ 64) first fits )
+  where
+  first_of : Option (ℕ × List ℕ) → ℕ
+  first_of None = 0
+  first_of (Some x) = x.0
+  rest_of : Option (ℕ × List ℕ) → List ℕ
+  rest_of None = []
+  rest_of (Some x) = x.1
+
+pub number_takes : (n : ℕ) (rest : List ℕ) → n < 2 ^ 64 → stops is_digit_byte rest ≡ true → number_at (decimal n ++ rest) ≡ Some (n, rest)
+unfolding number_at
+number_takes n rest fits s =
+    ap (λ x. number_of x.0 >>= λ m. Some (m, x.1)) (span_front is_digit_byte (decimal n) rest (digits-decimal n fits) s)
+    ∙ ap (λ o. o >>= λ m. Some (m, rest)) (number_of-decimal n fits)
+
+-- the parts of a pair that was read
+pub first_same : {A : Type 0} (x y : A) (r t : List ℕ) → ◌≡◌ {A = Option (A × List ℕ)} (Some (x, r)) (Some (y, t)) → x ≡ y
+first_same {A = A} x y r t h = ap (λ o. part o) h
+  where
+  part : Option (A × List ℕ) → A
+  part None = x
+  part (Some z) = z.0
+
+pub rest_same : {A : Type 0} (x y : A) (r t : List ℕ) → ◌≡◌ {A = Option (A × List ℕ)} (Some (x, r)) (Some (y, t)) → r ≡ t
+rest_same {A = A} x y r t h = ap (λ o. part o) h
+  where
+  part : Option (A × List ℕ) → List ℕ
+  part None = r
+  part (Some z) = z.1
+
+pub not_true : (b : Bool) → not b ≡ true → b ≡ false
+not_true true h = absurd (false≢true h)
+not_true false h = refl
+
+pub not_false : (b : Bool) → b ≡ false → not b ≡ true
+not_false true h = absurd (false≢true (sym h))
+not_false false h = refl
+
+pub reg_of-reg_name : (r : Reg) → reg_of (reg_name r) ≡ Some r
+reg_of-reg_name Rax = refl
+reg_of-reg_name Rbx = refl
+reg_of-reg_name Rcx = refl
+reg_of-reg_name Rdx = refl
+reg_of-reg_name Rsi = refl
+reg_of-reg_name Rdi = refl
+reg_of-reg_name Rbp = refl
+reg_of-reg_name Rsp = refl
+reg_of-reg_name R8 = refl
+reg_of-reg_name R9 = refl
+reg_of-reg_name R10 = refl
+reg_of-reg_name R11 = refl
+reg_of-reg_name R12 = refl
+reg_of-reg_name R13 = refl
+reg_of-reg_name R14 = refl
+reg_of-reg_name R15 = refl
+
+pub reg_name-bytes : (r : Reg) → list_all is_name_byte (reg_name r) ≡ true
+reg_name-bytes Rax = refl
+reg_name-bytes Rbx = refl
+reg_name-bytes Rcx = refl
+reg_name-bytes Rdx = refl
+reg_name-bytes Rsi = refl
+reg_name-bytes Rdi = refl
+reg_name-bytes Rbp = refl
+reg_name-bytes Rsp = refl
+reg_name-bytes R8 = refl
+reg_name-bytes R9 = refl
+reg_name-bytes R10 = refl
+reg_name-bytes R11 = refl
+reg_name-bytes R12 = refl
+reg_name-bytes R13 = refl
+reg_name-bytes R14 = refl
+reg_name-bytes R15 = refl
+
+-- what a name names is called so
+find_name : (rs : List Reg) (name : List ℕ) (r : Reg) → find (λ q. bytes_eq (reg_name q) name) rs ≡ Some r → reg_name r ≡ name
+find_name [] name r h = absurd cc
+find_name (q ∷ rs) name r h = by_test (bytes_eq (reg_name q) name) refl h
+    (λ k. find_name rs name r k)
+  where
+  by_test : (b : Bool) → bytes_eq (reg_name q) name ≡ b → cond b (Some q) (find (λ q. bytes_eq (reg_name q) name) rs) ≡ Some r → (find (λ q. bytes_eq (reg_name q) name) rs ≡ Some r → reg_name r ≡ name) → reg_name r ≡ name
+  by_test true e h k = let same : q ≡ r = cc in ap reg_name (sym same) ∙ (bytes_eq-Decides _ name).0 e
+  by_test false e h k = k h
+
+pub register_is : (bytes rest : List ℕ) (r : Reg) → register_at bytes ≡ Some (r, rest) → (bytes ≡ reg_name r ++ rest) × ((reg_number r == 7) ≡ false)
+unfolding register_at
+register_is bytes rest r h =
+    let s = span is_name_byte bytes in
+    let b = bind_some (reg_of s.0) _ _ h in
+    let g = given_some _ _ _ b.2 in
+    let first = ap (λ (x : Reg × List ℕ). x.0) g.1 in
+    let second = ap (λ (x : Reg × List ℕ). x.1) g.1 in
+    let name = find_name ALL_REGS s.0 b.0 b.1 in
+    ( span_whole is_name_byte bytes ∙ ap (λ x. x ++ s.1) (sym name) ∙ ap (λ q. reg_name q ++ s.1) first ∙ ap (λ x. reg_name r ++ x) second
+    , subst (λ q. (reg_number q == 7) ≡ false) first (not_true _ g.0) )
+
+pub register_takes : (r : Reg) (rest : List ℕ) → (reg_number r == 7) ≡ false → stops is_name_byte rest ≡ true → register_at (reg_name r ++ rest) ≡ Some (r, rest)
+unfolding register_at
+register_takes r rest h s =
+    ap (λ x. reg_of x.0 >>= λ q. given (not (reg_number q == 7)) (q, x.1)) (span_front is_name_byte (reg_name r) rest (reg_name-bytes r) s)
+    ∙ ap (λ o. o >>= λ q. given (not (reg_number q == 7)) (q, rest)) (reg_of-reg_name r)
+    ∙ ap (λ b. given b (r, rest)) (not_false _ h)
+
+-- what a statement may add
+abbrev pub Fits32 : ℤ → Type 0
+Fits32 z = (negsuc (2 ^ 31 - 1) ≤ℤ z) × (z <ℤ pos (2 ^ 31))
+
+negative_is : (bytes rest : List ℕ) (z : ℤ) → negative_at bytes ≡ Some (z, rest) → (codes "-" ++ bytes ≡ signed_decimal z ++ rest) × Fits32 z
+unfolding negative_at
+negative_is bytes rest z h =
+    let b = bind_some (number_at bytes) _ _ h in
+    let n = b.0 in
+    let g = given_some _ _ _ b.2 in
+    let both = and_parts _ _ g.0 in
+    let low : 0 < n.0 = ltb-true _ _ both.0 in
+    let high : n.0 ≤ 2 ^ 31 = leb-true _ _ both.1 in
+    let first : negsuc (n.0 - 1) ≡ z = ap (λ (x : ℤ × List ℕ). x.0) g.1 in
+    let second = ap (λ (x : ℤ × List ℕ). x.1) g.1 in
+    let text = (number_is bytes n.1 n.0 b.1).0 in
+    let e : n.0 ≡ suc (n.0 - 1) = omega arith in
+    ( ap (λ x. 45 ∷ x) (text ∙ ap (λ k. decimal k ++ n.1) e) ∙ ap (λ x. signed_decimal x ++ n.1) first ∙ ap (λ x. signed_decimal z ++ x) second
+    , subst Fits32 first (omega (arith, ints), omega (arith, ints)) )
+
+positive_is : (bytes rest : List ℕ) (z : ℤ) → positive_at bytes ≡ Some (z, rest) → (bytes ≡ signed_decimal z ++ rest) × Fits32 z
+unfolding positive_at
+positive_is bytes rest z h =
+    let b = bind_some (number_at bytes) _ _ h in
+    let n = b.0 in
+    let g = given_some _ _ _ b.2 in
+    let high : n.0 < 2 ^ 31 = ltb-true _ _ g.0 in
+    let first : pos n.0 ≡ z = ap (λ (x : ℤ × List ℕ). x.0) g.1 in
+    let second = ap (λ (x : ℤ × List ℕ). x.1) g.1 in
+    let text = (number_is bytes n.1 n.0 b.1).0 in
+    ( text ∙ ap (λ x. signed_decimal x ++ n.1) first ∙ ap (λ x. signed_decimal z ++ x) second
+    , subst Fits32 first (omega (arith, ints), omega (arith, ints)) )
+
+pub signed_is : (bytes rest : List ℕ) (z : ℤ) → signed_at bytes ≡ Some (z, rest) → (bytes ≡ signed_decimal z ++ rest) × Fits32 z
+unfolding signed_at
+signed_is bytes rest z h = by_sign (strip (codes "-") bytes) refl h
+  where
+  by_sign : (o : Option (List ℕ)) → strip (codes "-") bytes ≡ o → signed_after o bytes ≡ Some (z, rest) → (bytes ≡ signed_decimal z ++ rest) × Fits32 z
+  by_sign None e h = positive_is bytes rest z h
+  by_sign (Some behind) e h = let n = negative_is behind rest z h in (strip_is (codes "-") bytes behind e ∙ n.0, n.1)
+
+-- no - stands in front of a number without a sign
+strip_digit : (ds rest : List ℕ) → list_all is_digit_byte ds ≡ true → 0 < length ds → strip (codes "-") (ds ++ rest) ≡ None
+unfolding strip
+strip_digit [] rest h k = absurd (omega arith)
+strip_digit (d ∷ ds) rest h k =
+    let low : 48 ≤ d = leb-true 48 d (and_parts _ _ (and_parts _ _ h).0).0 in
+    let other : eqb d 45 ≡ false = ne_eqb d 45 (λ e. omega arith) in
+    ap (λ b. given (b && bytes_eq (take 0 (ds ++ rest)) []) (drop 0 (ds ++ rest))) other
+
+pub signed_takes : (z : ℤ) (rest : List ℕ) → Fits32 z → stops is_digit_byte rest ≡ true → signed_at (signed_decimal z ++ rest) ≡ Some (z, rest)
+unfolding signed_at negative_at positive_at
+signed_takes (pos n) rest fits s =
+    let small : n < 2 ^ 31 = omega (arith, ints) in
+    let wide : n < 2 ^ 64 = omega arith in
+    ap (λ o. signed_after o (decimal n ++ rest)) (strip_digit (decimal n) rest (digits-decimal n wide) (decimal_nonempty n wide))
+    ∙ ap (λ o. o >>= λ m. given (ltb m.0 (2 ^ 31)) (pos m.0, m.1)) (number_takes n rest wide s)
+    ∙ ap (λ b. given b (pos n, rest)) (lt-ltb n (2 ^ 31) small)
+signed_takes (negsuc n) rest fits s =
+    let small : suc n ≤ 2 ^ 31 = omega (arith, ints) in
+    let wide : suc n < 2 ^ 64 = omega arith in
+    let e : suc n - 1 ≡ n = omega arith in
+    ap (λ o. signed_after o (45 ∷ (decimal (suc n) ++ rest))) (strip_takes (codes "-") (decimal (suc n) ++ rest))
+    ∙ ap (λ o. o >>= λ m. given (ltb 0 m.0 && leb m.0 (2 ^ 31)) (negsuc (m.0 - 1), m.1)) (number_takes (suc n) rest wide s)
+    ∙ ap (λ b. given b (negsuc (suc n - 1), rest)) (and_from _ _ (lt-ltb 0 (suc n) (omega arith)) (le-leb (suc n) (2 ^ 31) small))
+    ∙ ap (λ k. Some (negsuc k, rest)) e
