@@ -2,3 +2,4 @@ pub mod Numbers
 pub mod Steps
 pub mod Pieces
 pub mod SourceLaws
+pub mod CertificateLaws

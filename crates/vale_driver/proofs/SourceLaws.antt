@@ -3,7 +3,7 @@ use Rattle.std.proofs.Common.{◌≡◌, ℕ, zero, suc, ◌+◌, ◌-◌, ◌<�
 use Rattle.std.specs.Prelude.{codes, ◌==◌, nat_le}
 use Rattle.std.specs.Fmt.{signed_decimal}
 use Rattle.std.specs.List.{prefix_len, list_all, AllByRecursion}
-use Rattle.std.proofs.lemmas.Bool.{and_parts, and_from, false≢true, leb-true, le-leb}
+use Rattle.std.proofs.lemmas.Bool.{and_parts, and_from, false≢true, leb-true, le-leb, eqb-true}
 use Rattle.x64_syntax.specs.declared.places.Reg.{Reg}
 use Rattle.x64_syntax.specs.Places.{reg_name, reg_number}
 use Rattle.x64_syntax.specs.Words.{is_name_byte, is_digit_byte, is_letter_byte, is_name_text, is_reserved_name, is_export_text}
@@ -236,3 +236,88 @@ head_takes name r total rest n u g f =
     ∙ ap (λ o. o >>= λ c. number_at c >>= λ k. end (name, r2) (r, r4) k) (again_takes r r5)
     ∙ ap (λ o. o >>= λ k. end (name, r2) (r, r4) k) (number_takes total (codes "w; { " ++ rest) f refl)
     ∙ takes (codes "w; { ") rest _
+
+-- what ends a text is nothing, or a newline
+pub ends_is : (bytes : List ℕ) → ends bytes ≡ true → (b : Bool) × (bytes ≡ last b)
+ends_is [] h = (false, refl)
+ends_is (c ∷ []) h = (true, ap (λ d. d ∷ []) (eqb-true c 10 h))
+ends_is (c ∷ d ∷ bs) h = absurd (false≢true h)
+
+pub last_ends : (b : Bool) → ends (last b) ≡ true
+last_ends true = refl
+last_ends false = refl
+
+tail_is : (name bytes export : List ℕ) → tail_at name bytes ≡ Some export → (b : Bool) × (bytes ≡ codes "} export " ++ (export ++ (codes " = " ++ (name ++ (codes "();" ++ last b))))) × (is_export_text export ≡ true)
+unfolding tail_at
+tail_is name bytes export h =
+    let a = bind_some (strip (codes "} export ") bytes) _ _ h in
+    let x = bind_some (export_at a.0) _ _ a.2 in
+    let b = bind_some (strip (codes " = ") x.0.1) _ _ x.2 in
+    let c = bind_some (strip name b.0) _ _ b.2 in
+    let d = bind_some (strip (codes "();") c.0) _ _ c.2 in
+    let g = given_some _ _ _ d.2 in
+    let e = ends_is d.0 g.0 in
+    let xn = export_is a.0 x.0.1 x.0.0 x.1 in
+    ( e.0
+    , strip_is (codes "} export ") bytes a.0 a.1
+      ∙ ap (λ y. codes "} export " ++ y) (xn.0
+      ∙ ap (λ y. x.0.0 ++ y) (strip_is (codes " = ") x.0.1 b.0 b.1
+      ∙ ap (λ y. codes " = " ++ y) (strip_is name b.0 c.0 c.1
+      ∙ ap (λ y. name ++ y) (strip_is (codes "();") c.0 d.0 d.1
+      ∙ ap (λ y. codes "();" ++ y) e.1)))
+      ∙ ap (λ z. z ++ (codes " = " ++ (name ++ (codes "();" ++ last e.0)))) g.1)
+    , subst (λ n. is_export_text n ≡ true) g.1 xn.1 )
+
+tail_takes : (name export : List ℕ) (b : Bool) → is_export_text export ≡ true → tail_at name (codes "} export " ++ (export ++ (codes " = " ++ (name ++ (codes "();" ++ last b))))) ≡ Some export
+unfolding tail_at
+tail_takes name export b h =
+    let r4 = codes "();" ++ last b in
+    let r3 = name ++ r4 in
+    let r2 = codes " = " ++ r3 in
+    takes (codes "} export ") (export ++ r2) _
+    ∙ ap (λ o. o >>= λ x. strip (codes " = ") x.1 >>= λ p. strip name p >>= λ c. strip (codes "();") c >>= λ d. given (ends d) x.0) (export_takes export r2 h refl)
+    ∙ takes (codes " = ") r3 _
+    ∙ takes name r4 _
+    ∙ takes (codes "();") (last b) _
+    ∙ ap (λ t. given t export) (last_ends b)
+
+-- a text is read as a source only where it is spelled so
+pub source_is : (bytes : List ℕ) (p : Straight) → source_at bytes ≡ Some p → IsStraight p × ((b : Bool) × (bytes ≡ spelling p (last b)))
+unfolding source_at
+source_is bytes p h =
+    let a = bind_some (head_at bytes) _ _ h in
+    let s = bind_some (statements_at statement_limit a.0.0.1 a.0.1) _ _ a.2 in
+    let x = bind_some (tail_at a.0.0.0 s.0.1) _ _ s.2 in
+    let g = given_some _ _ _ x.2 in
+    let head = head_is bytes a.0.0.0 a.0.0.1 a.0.0.2 a.0.1 a.1 in
+    let stated = statements_is statement_limit a.0.0.1 a.0.1 s.0.0 s.0.1 s.1 in
+    let tail = tail_is a.0.0.0 s.0.1 x.0 x.1 in
+    let read : Straight = record { name = a.0.0.0; register = a.0.0.1; amounts = s.0.0; total = a.0.0.2; export = x.0 } in
+    let fits : IsStraight read = record {
+      name = head.named;
+      unreserved = head.unreserved;
+      register = head.register;
+      some = leb-true 1 (length s.0.0) g.0;
+      few = stated.few;
+      amounts = stated.fits;
+      total = head.fits;
+      export = tail.2;
+    } in
+    let text : bytes ≡ spelling read (last tail.0) =
+      head.text ∙ ap (λ y. codes "procedure " ++ (a.0.0.0 ++ (codes "() reads " ++ (reg_name a.0.0.1 ++ again_text a.0.0.1 (decimal a.0.0.2 ++ (codes "w; { " ++ y))))))
+        (stated.text ∙ ap (statements_text a.0.0.1 s.0.0) tail.1) in
+    subst (λ q. IsStraight q × ((b : Bool) × (bytes ≡ spelling q (last b)))) g.1 (fits, (tail.0, text))
+
+-- what is spelled so is read
+pub source_takes : (p : Straight) (b : Bool) → IsStraight p → source_at (spelling p (last b)) ≡ Some p
+unfolding source_at
+source_takes p b ok =
+    let tail = tail_text p (last b) in
+    let body = statements_text p.register p.amounts tail in
+    ap (λ o. o >>= λ h. statements_at statement_limit h.0.1 h.1 >>= λ s. tail_at h.0.0 s.1 >>= λ x. given (nat_le 1 (length s.0)) record { name = h.0.0; register = h.0.1; amounts = s.0; total = h.0.2; export = x })
+      (head_takes p.name p.register p.total body ok.name ok.unreserved ok.register ok.total)
+    ∙ ap (λ o. o >>= λ s. tail_at p.name s.1 >>= λ x. given (nat_le 1 (length s.0)) record { name = p.name; register = p.register; amounts = s.0; total = p.total; export = x })
+      (statements_takes statement_limit p.register p.amounts tail ok.few ok.amounts refl)
+    ∙ ap (λ o. o >>= λ x. given (nat_le 1 (length p.amounts)) record { name = p.name; register = p.register; amounts = p.amounts; total = p.total; export = x })
+      (tail_takes p.name p.export b ok.export)
+    ∙ ap (λ t. given t p) (le-leb 1 (length p.amounts) ok.some)
