@@ -113,3 +113,71 @@ length-more_text (p ∷ ps) rest =
     let a : length (pair_text p (more_text ps rest)) ≡ 1 + (length (decimal p.0) + (1 + (length (decimal p.1) + (1 + length (more_text ps rest))))) =
       omega (arith, length-append (decimal p.0) (codes "," ++ (decimal p.1 ++ (codes "]" ++ more_text ps rest))), length-append (decimal p.1) (codes "]" ++ more_text ps rest)) in
     omega arith
+
+-- what a list that is read says
+record Listed (bytes : List ℕ) (x : PairsOf) : Type 0 where
+  text : bytes ≡ pairs_text x.0 x.1
+  fits : AllByRecursion FitsPair x.0
+
+pairs_is : (bytes : List ℕ) (x : PairsOf) → pairs_at bytes ≡ Some x → Listed bytes x
+unfolding pairs_at
+pairs_is bytes x h = by_test (begins_pair bytes) h
+  where
+  of_some : (x y : PairsOf) → ◌≡◌ {A = Option PairsOf} (Some x) (Some y) → x ≡ y
+  of_some x y h = cc
+  by_test : (b : Bool) → ◌≡◌ {A = Option PairsOf} (cond b (pair_at bytes >>= λ p. with_pairs (p.0 ∷ []) (more_at (length p.1) p.1)) (Some ([], bytes))) (Some x) → Listed bytes x
+  by_test false h = subst (Listed bytes) (of_some _ _ h) (record { text = refl; fits = tt })
+  by_test true h =
+    let p = bind_some (pair_at bytes) _ _ h in
+    let m = one_more p.0.0 (more_at (length p.0.1) p.0.1) x p.2 in
+    let here = pair_is bytes p.0 p.1 in
+    let there = more_is (length p.0.1) p.0.1 (m.0, x.1) m.1 in
+    record {
+      text = here.0 ∙ ap (pair_text p.0.0) there.text ∙ ap (λ ps. pairs_text ps x.1) (sym m.2);
+      fits = subst (AllByRecursion FitsPair) (sym m.2) (here.1, there.fits);
+    }
+
+pairs_takes : (ps : List Pair) (rest : List ℕ) → AllByRecursion FitsPair ps → no_comma rest → begins_pair rest ≡ false → pairs_at (pairs_text ps rest) ≡ Some (ps, rest)
+unfolding pairs_at
+pairs_takes [] rest fits s b = ap (λ t. cond t (pair_at rest >>= λ p. with_pairs (p.0 ∷ []) (more_at (length p.1) p.1)) (Some ([], rest))) b
+pairs_takes (p ∷ ps) rest fits s b =
+    ap (λ o. o >>= λ q. with_pairs (q.0 ∷ []) (more_at (length q.1) q.1)) (pair_takes p (more_text ps rest) fits.0)
+    ∙ ap (with_pairs (p ∷ [])) (more_takes (length (more_text ps rest)) ps rest (length-more_text ps rest) fits.1 s)
+
+-- a text is read as a certificate only where it is spelled so
+pub certificate_is : (name bytes : List ℕ) (ps : List Pair) → certificate_at name bytes ≡ Some ps → AllByRecursion FitsPair ps × ((b : Bool) × (bytes ≡ certificate_text name ps (last b)))
+unfolding certificate_at opening_at
+certificate_is name bytes ps h =
+    let a = bind_some (opening_at name bytes) _ _ h in
+    let o1 = bind_some (strip (codes "{\"condition\":\"") bytes) _ _ a.1 in
+    let o2 = bind_some (strip name o1.0) _ _ o1.2 in
+    let p = bind_some (pairs_at a.0) _ _ a.2 in
+    let c = bind_some (strip (codes "]]") p.0.1) _ _ p.2 in
+    let g = given_some _ _ _ c.2 in
+    let e = ends_is c.0 g.0 in
+    let l = pairs_is a.0 p.0 p.1 in
+    let text : bytes ≡ certificate_text name p.0.0 (last e.0) =
+      strip_is (codes "{\"condition\":\"") bytes o1.0 o1.1
+      ∙ ap (λ y. codes "{\"condition\":\"" ++ y) (strip_is name o1.0 o2.0 o2.1
+      ∙ ap (λ y. name ++ y) (strip_is (codes "()#0\"}\n[\"ring\",[") o2.0 a.0 o2.2
+      ∙ ap (λ y. codes "()#0\"}\n[\"ring\",[" ++ y) (l.text
+      ∙ ap (pairs_text p.0.0) (strip_is (codes "]]") p.0.1 c.0 c.1
+      ∙ ap (λ y. codes "]]" ++ y) e.1)))) in
+    subst (λ qs. AllByRecursion FitsPair qs × ((b : Bool) × (bytes ≡ certificate_text name qs (last b)))) g.1 (l.fits, (e.0, text))
+
+closing_no_comma : (rest : List ℕ) → no_comma (codes "]]" ++ rest)
+unfolding strip
+closing_no_comma rest = refl
+
+-- what is spelled so is read
+pub certificate_takes : (name : List ℕ) (ps : List Pair) (b : Bool) → AllByRecursion FitsPair ps → certificate_at name (certificate_text name ps (last b)) ≡ Some ps
+unfolding certificate_at opening_at
+certificate_takes name ps b fits =
+    let r3 = codes "]]" ++ last b in
+    let r2 = pairs_text ps r3 in
+    let r1 = codes "()#0\"}\n[\"ring\",[" ++ r2 in
+    ap (λ o. o >>= λ a. pairs_at a >>= λ p. strip (codes "]]") p.1 >>= λ d. given (ends d) p.0)
+      (takes (codes "{\"condition\":\"") (name ++ r1) _ ∙ takes name r1 _ ∙ strip_takes (codes "()#0\"}\n[\"ring\",[") r2)
+    ∙ ap (λ o. o >>= λ p. strip (codes "]]") p.1 >>= λ d. given (ends d) p.0) (pairs_takes ps r3 fits (closing_no_comma (last b)) refl)
+    ∙ takes (codes "]]") (last b) _
+    ∙ ap (λ t. given t ps) (last_ends b)

@@ -20,7 +20,8 @@ use Rattle.x64_meaning.specs.State.{State, IsState, place_sort, read, write, fla
 use Rattle.x64_meaning.specs.Exp.{Exp, Before, After, Loaded, Int, W64, Un, Bin, Ite, exp_sort, exp_value, among, knows}
 use Rattle.x64_meaning.specs.Table.{Equation, equations, writes, source, apply, suits, in_order}
 use Rattle.x64_meaning.proofs.Reading.{Storable, read_written, read_other, write-IsState, read-sorted}
-use Rattle.x64_meaning.proofs.Exps.{IsOf, exp_value-same, exp_value-sorted}
+use Rattle.term_core.proofs.Values.{IsOf, sort_eq_is}
+use Rattle.x64_meaning.proofs.Exps.{exp_value-same, exp_value-sorted}
 
 -- a place that is among some, and one that isn't, are two
 among_apart : (ps : List Place) (p q : Place) → among ps p ≡ true → among ps q ≡ false → place_eq p q ≡ false
@@ -36,24 +37,6 @@ small_flag zero h = refl
 small_flag (suc zero) h = refl
 small_flag (suc (suc zero)) h = refl
 small_flag (suc (suc (suc n))) h = let le : suc (suc (suc n)) ≤ 2 = leb-true _ _ h in absurd (omega arith)
-
-sort_eq_is : (s t : Sort) → sort_eq s t ≡ true → s ≡ t
-sort_eq_is sort.Int sort.Int h = refl
-sort_eq_is sort.Bool sort.Bool h = refl
-sort_eq_is sort.W64 sort.W64 h = refl
-sort_eq_is sort.W128 sort.W128 h = refl
-sort_eq_is sort.Int sort.Bool h = cc
-sort_eq_is sort.Int sort.W64 h = cc
-sort_eq_is sort.Int sort.W128 h = cc
-sort_eq_is sort.Bool sort.Int h = cc
-sort_eq_is sort.Bool sort.W64 h = cc
-sort_eq_is sort.Bool sort.W128 h = cc
-sort_eq_is sort.W64 sort.Int h = cc
-sort_eq_is sort.W64 sort.Bool h = cc
-sort_eq_is sort.W64 sort.W128 h = cc
-sort_eq_is sort.W128 sort.Int h = cc
-sort_eq_is sort.W128 sort.Bool h = cc
-sort_eq_is sort.W128 sort.W64 h = cc
 
 -- a choice between two numbers from 0 to 2
 choice_flag : (b : Bool) (m n : ℕ) → nat_le m 2 ≡ true → nat_le n 2 ≡ true → cond b (Whole (pos m)) (Whole (pos n)) ≡ Whole (pos (flag_number_of (flag_from (whole (cond b (Whole (pos m)) (Whole (pos n)))))))

@@ -17,7 +17,7 @@ use Rattle.term_core.specs.Terms as tm
 use Rattle.term_core.specs.Value.{T, T128, Val, Whole, Word, Wide, Truth, whole, word, wide, truth, cast, un_value, bin_value, Assignment, value}
 use Rattle.x64_meaning.specs.State.{place_sort}
 use Rattle.x64_meaning.specs.Exp.{Exp, Before, After, Loaded, Int, W64, Un, Bin, Ite, exp_sort, exp_value, exp_term, among, knows}
-use Rattle.x64_meaning.proofs.Reading.{word-lt, wide-lt}
+use Rattle.term_core.proofs.Values.{IsOf, bin_value-sorted, choice-sorted}
 
 module _ (before after : Place → Tm) (loaded : Tm) (sb : (p : Place) → tm_sort (before p) ≡ place_sort p) (sa : (p : Place) → tm_sort (after p) ≡ place_sort p) (sl : tm_sort loaded ≡ sort.W64) where
   -- the term has the sort of the expression
@@ -69,33 +69,6 @@ exp_value-all b1 b2 a1 a2 m sb sa (W64 n) = refl
 exp_value-all b1 b2 a1 a2 m sb sa (Un op e) = ap (un_value op) (exp_value-all b1 b2 a1 a2 m sb sa e)
 exp_value-all b1 b2 a1 a2 m sb sa (Bin op e f) = rw (exp_value-all b1 b2 a1 a2 m sb sa e, exp_value-all b1 b2 a1 a2 m sb sa f) refl
 exp_value-all b1 b2 a1 a2 m sb sa (Ite c e f) = rw (exp_value-all b1 b2 a1 a2 m sb sa c, exp_value-all b1 b2 a1 a2 m sb sa e, exp_value-all b1 b2 a1 a2 m sb sa f) refl
-
--- a value that is one of its sort
-abbrev pub IsOf : Sort → Val → Type 0
-IsOf s v = cast s v ≡ v
-
-cast_twice : (s : Sort) (v : Val) → cast s (cast s v) ≡ cast s v
-cast_twice sort.Int v = refl
-cast_twice sort.Bool v = refl
-cast_twice sort.W64 v = ap Word (mod-eq_of_lt (word-lt v))
-cast_twice sort.W128 v = ap Wide (mod-eq_of_lt (wide-lt v))
-
-sum-sorted : (s : Sort) (v w : Val) → IsOf (sum_sort s) (bin_value bin.Add s v w)
-sum-sorted sort.Int v w = refl
-sum-sorted sort.Bool v w = refl
-sum-sorted sort.W128 v w = refl
-sum-sorted sort.W64 v w = ap Word (mod-eq_of_lt (mod_below (word v + word w) T (omega arith)))
-
-bin_value-sorted : (op : BinOp) (s : Sort) (v w : Val) → IsOf (bin_sort op s) (bin_value op s v w)
-bin_value-sorted bin.Add s v w = sum-sorted s v w
-bin_value-sorted bin.And s v w = ap Word (mod-eq_of_lt (and_lt 64 (word v) (word w) (word-lt v) (word-lt w)))
-bin_value-sorted bin.Xor s v w = ap Word (mod-eq_of_lt (xor_lt 64 (word v) (word w) (word-lt v) (word-lt w)))
-bin_value-sorted bin.Eq s v w = refl
-bin_value-sorted bin.Le s v w = refl
-
-choice-sorted : (s : Sort) (b : Bool) (v w : Val) → IsOf s v → IsOf s (cond b v (cast s w))
-choice-sorted s true v w h = h
-choice-sorted s false v w h = cast_twice s w
 
 -- an expression's value is one of its sort
 pub exp_value-sorted : (b a : Place → Val) (m : Val) → ((p : Place) → IsOf (place_sort p) (b p)) → ((p : Place) → IsOf (place_sort p) (a p)) → IsOf sort.W64 m → (e : Exp) → IsOf (exp_sort e) (exp_value b a m e)

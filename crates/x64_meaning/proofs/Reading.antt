@@ -9,6 +9,7 @@ use Rattle.x64_syntax.specs.declared.places.Place.TheVariants.{Reg, Xmm, Flag}
 use Rattle.x64_syntax.specs.Places.{reg_number, xmm_number, flag_number, place_eq}
 use Rattle.x64_syntax.proofs.PlaceLemmas.{reg_number-lt, xmm_number-lt, flag_number-lt}
 use Rattle.term_core.specs.Value.{T, T128, Val, Whole, Word, Wide, Truth, whole, word, wide, cast}
+use Rattle.term_core.proofs.Values.{word-lt, wide-lt}
 use Rattle.x64_meaning.specs.declared.machine.Flag.{Flag as FlagValue}
 use Rattle.x64_meaning.specs.declared.machine.Flag.TheVariants.{Zero, One, Undefined}
 use Rattle.x64_meaning.specs.State.{State, Block, IsState, Covers, block_at, flag_number_of, flag_from, flag, reg, place_sort, read, write}
@@ -18,18 +19,6 @@ abbrev pub Storable : Place → Val → Type 0
 Storable (Reg r) v = v ≡ Word (word v)
 Storable (Xmm x) v = v ≡ Wide (wide v)
 Storable (Flag f) v = v ≡ Whole (pos (flag_number_of (flag_from (whole v))))
-
-pub word-lt : (v : Val) → word v < T
-word-lt (Word n) = mod_below n T (omega arith)
-word-lt (Whole z) = omega arith
-word-lt (Truth b) = omega arith
-word-lt (Wide n) = omega arith
-
-pub wide-lt : (v : Val) → wide v < T128
-wide-lt (Wide n) = mod_below n T128 (omega arith)
-wide-lt (Whole z) = omega arith
-wide-lt (Truth b) = omega arith
-wide-lt (Word n) = omega arith
 
 pub read_written : (s : State) (p : Place) (v : Val) → IsState s → Storable p v → read (write s p v) p ≡ v
 read_written s (Reg r) v ok h =

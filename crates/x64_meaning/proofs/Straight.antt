@@ -6,8 +6,6 @@ use Rattle.std.proofs.Common.{length-append}
 use Rattle.std.proofs.Math.Seq.{get_or-append_seam}
 use Rattle.std.proofs.lemmas.Option.{slice_get-get_or}
 use Rattle.std.proofs.lemmas.Bool.{and_parts, false≢true, eq-eqb}
-use Rattle.std.specs.Ordering.{int_eq}
-use Rattle.std.specs.Cmp.{signed_Decides}
 use Rattle.x64_syntax.specs.declared.places.Reg.TheVariants.{Rsp}
 use Rattle.x64_syntax.specs.declared.places.FlagName.{FlagName}
 use Rattle.x64_syntax.specs.declared.places.FlagName.TheVariants.{Cf, Zf, Sf, Of}
@@ -30,6 +28,7 @@ use Rattle.x64_meaning.specs.Table.{Equation, equations, writes, apply, reads, l
 use Rattle.x64_meaning.specs.Run.{after, does, with_flags, first_undefined, Outcome, Done, Way, start, stepped, End, Ended, run, act, after_does}
 use Rattle.x64_meaning.specs.Contract.{Contract, Worth, Pre, Post, Frame, Meets}
 use Rattle.x64_meaning.specs.Condition.{Versions, version, version_name, next_versions, hypothesis, hypotheses, end_versions, first_versions, straight_hyps, straight_goal, is_plain, unwritten, straight_items, StraightFits}
+use Rattle.term_core.proofs.Values.{val_eq_same}
 use Rattle.x64_meaning.proofs.Reading.{read-sorted}
 use Rattle.x64_meaning.proofs.Exps.{exp_term-value, exp_value-same, exp_value-all}
 use Rattle.x64_meaning.proofs.Apply.{apply-other, apply-IsState, apply-blocks, apply-equations, equations-in_order, Equal, Order, not_true, order_of, places, among_head, among_tail}
@@ -97,16 +96,6 @@ follows-written : (a : Assignment) (v : Versions) (i : Ins) (is : List Ins) (s :
 unfolding value_at
 follows-written a v i is s f p w =
     f.names p 1 (omega arith) ∙ ap (λ b. cond b (value_at is (next s i) p 0) (value_at is (next s i) p 1)) w ∙ value_at-zero is (next s i) p
-
-int_eq_same : (z : ℤ) → int_eq z z ≡ true
-int_eq_same z = (signed_Decides z z).1 refl
-
-val_eq_same : (v : Val) → val_eq v v ≡ true
-val_eq_same (Whole z) = int_eq_same z
-val_eq_same (Truth true) = refl
-val_eq_same (Truth false) = refl
-val_eq_same (Word n) = eq-eqb n n refl
-val_eq_same (Wide n) = eq-eqb n n refl
 
 equal_holds : (v w : Val) → v ≡ w → Truth (val_eq v w) ≡ Truth true
 equal_holds v w h = ap Truth (ap (val_eq v) (sym h) ∙ val_eq_same v)
