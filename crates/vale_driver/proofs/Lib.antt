@@ -3,3 +3,4 @@ pub mod Steps
 pub mod Pieces
 pub mod SourceLaws
 pub mod CertificateLaws
+pub mod RingSound
