@@ -4,3 +4,4 @@ pub mod Pieces
 pub mod SourceLaws
 pub mod CertificateLaws
 pub mod RingSound
+pub mod RingCode

@@ -2,3 +2,5 @@ pub mod Reading
 pub mod Source
 pub mod Certificate
 pub mod Ring
+pub mod RingCode
+pub mod Build

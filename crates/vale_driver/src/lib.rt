@@ -3,6 +3,7 @@
 
 mod certificate;
 mod reading;
+mod ring;
 mod source;
 mod straight;
 
