@@ -5,9 +5,10 @@ ghost use Rattle.std.specs.List.{list_all};
 ghost use Rattle.std.specs.Option.{option_copied, option_map};
 ghost use Rattle.term_core.specs.Terms.{tree, trees};
 ghost use Rattle.vale_driver.specs.Ring.{Occurrence, Sides, Weighted, of_words, occurrences, width, times, difference, same_atom, coefficient, balanced, sides, weighted, closes_with, ring_closes};
-ghost use Rattle.vale_driver.specs.RingCode.{seen, seen_all, atom_of, sides_of};
+ghost use Rattle.vale_driver.specs.RingCode.{seen, seen_all, atom_of, sides_of, Never, Weighs, hypothesis_sides_of};
 
 use crate::certificate::Pair;
+use sqlite_items::at as nth;
 use std::alloc::{AllocError as NoMemory, Global};
 use term_core::{BinOp, Sort, Term, same, sort_of};
 
@@ -160,4 +161,61 @@ fn sides_in(t: &Term) -> Option<(&Term, &Term)>
         }
         _ => None,
     }
+}
+
+// The occurrences in the named hypotheses, each times its factor, and how wide their sides are. There are none where
+// a hypothesis isn't an equation of words, or where the sides are too wide for any goal.
+fn weigh<'a>(
+    alloc: Global,
+    hyps: &'a [Term],
+    pairs: &[Pair],
+) -> Result<Option<(Vec<Occurring<'a>>, u64)>, NoMemory>
+    ensures { IfOk result (λ o. MatchOption o (Never (weighted (trees hyps.now) pairs.now)) (Weighs (weighted (trees hyps.now) pairs.now))) }
+{
+    let mut all = Vec::new(alloc);
+    let mut width = 0u64;
+    for pair in pairs {
+        let Some((left, right)) = hypothesis_sides(hyps, pair.0) else {
+            return Ok(None);
+        };
+        width = width.saturating_add(width_of(left).saturating_add(width_of(right)));
+        if WIDTH_LIMIT < width {
+            return Ok(None);
+        }
+        let more = difference_of(alloc, left, right)?;
+        push_times(&mut all, pair.1, &more)?;
+    }
+    Ok(Some((all, width)))
+}
+
+fn hypothesis_sides(hyps: &[Term], at: usize) -> Option<(&Term, &Term)>
+    ensures { sides_of result ≡ hypothesis_sides_of (trees hyps.now) at }
+{
+    match nth(hyps, at) {
+        Some(hyp) => sides_in(hyp),
+        None => None,
+    }
+}
+
+/// Whether the rule applies: for every monomial the coefficients of the goal's sides and of the weighted sum of the
+/// hypotheses' sides agree modulo 2^64, and the sides are narrow enough.
+pub(crate) fn ring_closes(
+    alloc: Global,
+    hyps: &[Term],
+    goal: &Term,
+    pairs: &[Pair],
+) -> Result<bool, NoMemory>
+    ensures { IfOk result (λ closes. closes ≡ ring_closes (trees hyps.now) (tree goal.now) pairs.now) }
+{
+    let Some((left, right)) = sides_in(goal) else {
+        return Ok(false);
+    };
+    let Some((all, width)) = weigh(alloc, hyps, pairs)? else {
+        return Ok(false);
+    };
+    if WIDTH_LIMIT < width.saturating_add(width_of(left).saturating_add(width_of(right))) {
+        return Ok(false);
+    }
+    let wanted = difference_of(alloc, left, right)?;
+    Ok(is_balanced(&wanted, &all))
 }
