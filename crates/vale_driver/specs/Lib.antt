@@ -4,3 +4,4 @@ pub mod Certificate
 pub mod Ring
 pub mod RingCode
 pub mod Build
+pub mod Addition

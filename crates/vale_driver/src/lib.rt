@@ -2,6 +2,7 @@
 #![tactic(auto)]
 
 mod certificate;
+mod condition;
 mod reading;
 mod ring;
 mod source;
