@@ -5,3 +5,5 @@ pub mod SourceLaws
 pub mod CertificateLaws
 pub mod RingSound
 pub mod RingCode
+pub mod ConditionLaws
+pub mod Spelled

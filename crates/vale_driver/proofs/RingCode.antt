@@ -22,7 +22,7 @@ coefficient-lt m (o ∷ os) = either (same_atom m o.atom) (coefficient-lt m os)
   either true h = mod_below (o.coefficient + coefficient m os) T (omega arith)
   either false h = h
 
-drop_all : {A : Type 0} (n : ℕ) (xs : List A) → length xs ≤ n → drop n xs ≡ []
+pub drop_all : {A : Type 0} (n : ℕ) (xs : List A) → length xs ≤ n → drop n xs ≡ []
 drop_all zero [] h = refl
 drop_all (suc n) [] h = refl
 drop_all zero (x ∷ xs) h = absurd (omega arith)

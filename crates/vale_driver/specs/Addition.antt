@@ -42,3 +42,6 @@ overflow_term r n k =
 
 abbrev pub addition_terms : GeneralReg → ℕ → ℕ → List Tm
 addition_terms r n k = sum_term r n k ∷ carry_term r n k ∷ zero_term r k ∷ sign_term r k ∷ overflow_term r n k ∷ []
+
+unfoldable pub promise_term : GeneralReg → ℕ → ℕ → Tm
+promise_term r total last = Bin bin.Eq (version (Reg r) last) (Bin bin.Add (version (Reg r) 0) (W64 total))

@@ -5,3 +5,4 @@ pub mod Ring
 pub mod RingCode
 pub mod Build
 pub mod Addition
+pub mod Assembly

@@ -9,7 +9,7 @@ ghost use Rattle.term_core.specs.Terms as tm;
 ghost use Rattle.x64_meaning.specs.State.{place_sort};
 ghost use Rattle.x64_meaning.specs.Table.{word_of};
 ghost use Rattle.x64_meaning.specs.Condition.{version_name, version};
-ghost use Rattle.vale_driver.specs.Addition.{sum_term, carry_term, zero_term, sign_term, overflow_term, addition_terms};
+ghost use Rattle.vale_driver.specs.Addition.{sum_term, carry_term, zero_term, sign_term, overflow_term, addition_terms, promise_term};
 ghost use Rattle.vale_driver.specs.Build.{statement_hyps, hyps_from, condition_hyps, condition_goal};
 
 use crate::straight::Straight;
@@ -193,4 +193,49 @@ impl Addition {
         hyps.push(self.overflow(alloc)?)?;
         Ok(())
     }
+}
+
+// Appends the equations of all statements.
+fn push_hypotheses(
+    alloc: Global,
+    hyps: &mut Items<Term>,
+    register: Reg,
+    amounts: &[i64],
+) -> Result<(), NoMemory>
+    requires { length amounts.now < 2 ^ 63 }
+    ensures { OnOk result (trees hyps.new ≡ trees hyps.old ++ hyps_from register amounts.now 0) }
+{
+    for (i, amount) in amounts.iter().enumerate() {
+        let addition = Addition {
+            register,
+            amount: amount.cast_unsigned(),
+            version: i as u64,
+        };
+        addition.push_equations(alloc, hyps)?;
+    }
+    Ok(())
+}
+
+/// The condition of a source.
+pub(crate) fn condition(alloc: Global, source: &Straight) -> Result<Sequent, NoMemory>
+    requires { length source.now.amounts < 2 ^ 63 }
+    ensures hyps { IfOk result (λ s. trees s.hyps ≡ condition_hyps source.now) }
+    ensures goal { IfOk result (λ s. tree s.goal ≡ condition_goal source.now) }
+{
+    let amounts = source.amounts.as_slice();
+    let mut hyps = Items::new(alloc);
+    push_hypotheses(alloc, &mut hyps, source.register, amounts)?;
+    let goal = promise(alloc, source.register, source.total, amounts.len() as u64)?;
+    Ok(Sequent { hyps, goal })
+}
+
+// The register's last version is its first and the total more.
+#[tactic(auto, unfolding(crate::specs::Addition::promise_term))]
+fn promise(alloc: Global, register: Reg, total: u64, last: u64) -> Result<Term, NoMemory>
+    ensures { IfOk result (λ t. tree t ≡ promise_term register total last) }
+{
+    let end = version(alloc, Place::Reg(register), last)?;
+    let begin = version(alloc, Place::Reg(register), 0)?;
+    let sum = binary(alloc, BinOp::Add, begin, Term::W64(total))?;
+    binary(alloc, BinOp::Eq, end, sum)
 }
