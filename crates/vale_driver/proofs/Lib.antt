@@ -7,3 +7,4 @@ pub mod RingSound
 pub mod RingCode
 pub mod ConditionLaws
 pub mod Spelled
+pub mod Lines

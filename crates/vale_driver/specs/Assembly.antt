@@ -34,6 +34,7 @@ abbrev pub ins_text : Ins → List ℕ → List ℕ
 ins_text (Mov d (R s)) rest = codes "\tmovq " ++ source_text (R s) (reg_text d (codes "\n" ++ rest))
 ins_text (Mov d (Imm z)) rest = codes "\tmovabsq $" ++ (decimal (word_of z) ++ (codes ", " ++ reg_text d (codes "\n" ++ rest)))
 ins_text (Mov d (M m)) rest = rest
+ins_text (Alu op d (M m)) rest = rest
 ins_text (Alu op d s) rest = mnemonic op ++ source_text s (reg_text d (codes "\n" ++ rest))
 
 -- an item's lines, and what follows
@@ -109,3 +110,8 @@ pub record IsProgram (items : List Item) : Type 0 where
 pub record ReadsAs (bytes : List ℕ) (items : List Item) : Type 0 where
   pub program : IsProgram items
   pub text : bytes ≡ text_of items
+
+-- lines, one after another
+abbrev pub joined : List (List ℕ) → List ℕ
+joined [] = []
+joined (l ∷ ls) = l ++ joined ls

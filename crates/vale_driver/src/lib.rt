@@ -3,6 +3,8 @@
 
 mod certificate;
 mod condition;
+mod gas;
+mod lower;
 mod reading;
 mod ring;
 mod source;
