@@ -6,3 +6,5 @@ pub mod RingCode
 pub mod Build
 pub mod Addition
 pub mod Assembly
+pub mod Outcome
+pub mod Codes

@@ -8,6 +8,8 @@ mod lower;
 mod reading;
 mod ring;
 mod source;
+mod status;
 mod straight;
 
+pub use status::{Refusal, Status};
 pub use straight::Straight;
