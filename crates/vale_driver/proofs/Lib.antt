@@ -8,3 +8,4 @@ pub mod RingCode
 pub mod ConditionLaws
 pub mod Spelled
 pub mod Lines
+pub mod Built

@@ -32,7 +32,7 @@ is_register r (Reg q) = reg_eq r q
 is_register r _ = false
 
 abbrev pub is_changed : GeneralReg → Place → Bool
-is_changed r (Reg q) = reg_eq r q
+is_changed r (Reg q) = reg_eq q r
 is_changed r (Xmm x) = false
 is_changed r (Flag f) = true
 

@@ -8,3 +8,4 @@ pub mod Addition
 pub mod Assembly
 pub mod Outcome
 pub mod Codes
+pub mod Stops

@@ -1,6 +1,7 @@
 //! The program: it reads a source and a certificate, checks that the one proves the other, and writes assembler text.
 #![tactic(auto)]
 
+mod build;
 mod certificate;
 mod condition;
 mod gas;
