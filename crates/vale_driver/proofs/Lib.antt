@@ -9,3 +9,6 @@ pub mod ConditionLaws
 pub mod Spelled
 pub mod Lines
 pub mod Built
+pub mod ReadLaws
+pub mod ToldLaws
+pub mod StopLaws

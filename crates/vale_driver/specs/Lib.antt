@@ -9,3 +9,4 @@ pub mod Assembly
 pub mod Outcome
 pub mod Codes
 pub mod Stops
+pub mod Ends

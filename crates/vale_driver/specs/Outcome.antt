@@ -51,14 +51,19 @@ usage_line = codes "usage: vale COMMAND [OPTIONS] FILE..\n"
 unfoldable pub read_fault_line : List ℕ
 read_fault_line = codes "read fault\n"
 
-abbrev pub source_refusal : Build → Refusal
-source_refusal b = record { number = 2; file = Some b.file; at = Some 0; who = None; cause = codes "NotBuilt" }
+-- a file of which the reading isn't built
+abbrev pub not_built : ℕ → List ℕ → ℕ → Refusal
+not_built number file at = record { number = number; file = Some file; at = Some at; who = None; cause = codes "NotBuilt" }
 
-abbrev pub certificate_refusal : Build → Refusal
-certificate_refusal b = record { number = 9; file = Some b.cert; at = Some 1; who = None; cause = codes "NotBuilt" }
+-- the source, the first line of the certificate, and its step
+abbrev pub source_refusal : List ℕ → Refusal
+source_refusal file = not_built 2 file 0
 
-abbrev pub step_refusal : Build → Straight → Refusal
-step_refusal b p = record { number = 11; file = Some b.cert; at = Some 2; who = Some (p.name ++ codes "()#0"); cause = codes "step 0" }
+abbrev pub certificate_refusal : List ℕ → Refusal
+certificate_refusal cert = not_built 9 cert 1
+
+abbrev pub step_refusal : List ℕ → List ℕ → Refusal
+step_refusal cert name = record { number = 11; file = Some cert; at = Some 2; who = Some (name ++ codes "()#0"); cause = codes "step 0" }
 
 -- What is told of the source and of the certificate.
 pub record Told : Type 0 where
@@ -67,12 +72,12 @@ pub record Told : Type 0 where
 
 -- the source that is told isn't of the form
 pub record SourceRefused (b : Build) (t : Told) (r : Refusal) : Type 0 where
-  pub is : r ≡ source_refusal b
+  pub is : r ≡ source_refusal b.file
   pub not_of_form : IfSome t.source (λ s. (p : Straight) → Spells s p → ⊥)
 
 -- the source is of the form, and the certificate isn't
 pub record CertificateRefused (b : Build) (t : Told) (r : Refusal) : Type 0 where
-  pub is : r ≡ certificate_refusal b
+  pub is : r ≡ certificate_refusal b.cert
   pub program : Straight
   pub source : IfSome t.source (λ s. Spells s program)
   pub not_of_form : IfSome t.cert (λ c. (ps : List Pair) → Proves c program.name ps → ⊥)
@@ -81,7 +86,7 @@ pub record CertificateRefused (b : Build) (t : Told) (r : Refusal) : Type 0 wher
 pub record StepRefused (b : Build) (t : Told) (r : Refusal) : Type 0 where
   pub program : Straight
   pub steps : List Pair
-  pub is : r ≡ step_refusal b program
+  pub is : r ≡ step_refusal b.cert program.name
   pub source : IfSome t.source (λ s. Spells s program)
   pub cert : IfSome t.cert (λ c. Proves c program.name steps)
   pub not_closed : ring_closes (condition_hyps program) (condition_goal program) steps ≡ false

@@ -4,7 +4,10 @@ use Rattle.std.specs.declared.alloc.Global.{Global}
 use Rattle.vale_outside.specs.Outside.{Rose}
 use Rattle.vale_driver.specs.declared.build.Stop.{Stop}
 use Rattle.vale_driver.specs.declared.build.Stop.TheVariants.{Refused, ReadFault, NoMemory}
-use Rattle.vale_driver.specs.Outcome.{Build, Told, IsRefused}
+use Rattle.vale_driver.specs.declared.straight.Straight.{Straight}
+use Rattle.vale_driver.specs.Source.{Spells}
+use Rattle.vale_driver.specs.Certificate.{Pair, Proves}
+use Rattle.vale_driver.specs.Outcome.{Build, Told, IsRefused, source_refusal, certificate_refusal}
 
 abbrev pub Stops : Build → Told → ℕ → ℕ → Stop → Type 0
 Stops b t before now (Refused r) = IsRefused b t r
@@ -22,3 +25,15 @@ abbrev pub Fetched : Option (List ℕ) → ℕ → ℕ → ℕ → Result (Optio
 Fetched told limit before now (Ok (Some v)) = (length v.items ≤ limit) × IfSome told (λ held. v.items ≡ held)
 Fetched told limit before now (Ok None) = IfSome told (λ held. limit < length held)
 Fetched told limit before now (Err e) = FetchStops before now e
+
+-- the source isn't read
+abbrev pub SourceStops : List ℕ → Option (List ℕ) → ℕ → ℕ → Stop → Type 0
+SourceStops file told before now (Refused r) = (r ≡ source_refusal file) × IfSome told (λ s. (p : Straight) → Spells s p → ⊥)
+SourceStops file told before now ReadFault = Rose before now
+SourceStops file told before now NoMemory = Unit {0}
+
+-- the certificate isn't read
+abbrev pub CertificateStops : List ℕ → List ℕ → Option (List ℕ) → ℕ → ℕ → Stop → Type 0
+CertificateStops cert name told before now (Refused r) = (r ≡ certificate_refusal cert) × IfSome told (λ c. (ps : List Pair) → Proves c name ps → ⊥)
+CertificateStops cert name told before now ReadFault = Rose before now
+CertificateStops cert name told before now NoMemory = Unit {0}

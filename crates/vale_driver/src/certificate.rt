@@ -1,9 +1,9 @@
 // The certificate, read byte by byte: one section with one `ring` step.
 
-ghost use Rattle.std.specs.Prelude.{◌≡◌, length};
+ghost use Rattle.std.specs.Prelude.{◌≡◌, ◌≤◌, List, length, IfOk};
 ghost use Rattle.std.specs.Option.{option_copied, option_map};
 ghost use Rattle.vale_driver.specs.Source.{Reads};
-ghost use Rattle.vale_driver.specs.Certificate.{pair_at, more_at, with_pairs, begins_pair, pairs_at, opening_at, certificate_at};
+ghost use Rattle.vale_driver.specs.Certificate.{pair_at, more_at, with_pairs, begins_pair, pairs_at, opening_at, certificate_at, certificate_limit, Pair, Proves};
 
 use crate::reading::{after, number};
 use crate::source::{ReadFault, is_end};
@@ -15,9 +15,21 @@ const HYPOTHESIS_LIMIT: u64 = 20479;
 /// A hypothesis's number, and the factor that it counts with.
 pub(crate) type Pair = (usize, u64);
 
-/// The pairs of the certificate for a procedure of this name.
-#[tactic(auto, unfolding(crate::specs::Certificate::certificate_at))]
+/// The pairs of the certificate for a procedure of this name, which are read exactly where the text is of the form. The
+/// text's length is the caller's concern.
 pub(crate) fn read_certificate(
+    alloc: Global,
+    name: &[u8],
+    bytes: &[u8],
+) -> Result<Vec<Pair>, ReadFault>
+    ensures found { IfOk result (λ v. length bytes.now ≤ certificate_limit → Proves bytes.now name.now v.items) }
+    ensures refused { result ≡ Err ReadFault.NotOfForm → (ps : List Pair) → Proves bytes.now name.now ps → ⊥ }
+{
+    pairs_of(alloc, name, bytes)
+}
+
+#[tactic(auto, unfolding(crate::specs::Certificate::certificate_at))]
+fn pairs_of(
     alloc: Global,
     name: &[u8],
     bytes: &[u8],

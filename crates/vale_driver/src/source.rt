@@ -2,7 +2,8 @@
 
 ghost use Rattle.std.specs.Prelude.{◌≡◌, ◌≤◌, length, Some, None, List, ℤ, ℕ, MatchResult, IfOk};
 ghost use Rattle.std.specs.Option.{option_copied, option_map};
-ghost use Rattle.vale_driver.specs.Source.{again_at, modifies_at, ensures_at, name_at, export_at, head_at, statement_at, begins_tail, statements_at, ends, tail_at, source_at, with_front, Reads};
+ghost use Rattle.vale_driver.specs.declared.straight.Straight.{Straight};
+ghost use Rattle.vale_driver.specs.Source.{again_at, modifies_at, ensures_at, name_at, export_at, head_at, statement_at, begins_tail, statements_at, ends, tail_at, source_at, with_front, Reads, IsStraight, Spells, source_limit};
 
 use crate::reading::{after, number, register, signed, word};
 use crate::straight::Straight;
@@ -53,9 +54,17 @@ struct Head<'a> {
     rest: &'a [u8],
 }
 
-/// The source of a text.
-#[tactic(auto, unfolding(crate::specs::Source::source_at))]
+/// The source of a text, which is read exactly where the text is of the form. The text's length is the caller's concern.
 pub(crate) fn read_source(alloc: Global, bytes: &[u8]) -> Result<Straight, ReadFault>
+    ensures fits { IfOk result IsStraight }
+    ensures found { IfOk result (λ p. length bytes.now ≤ source_limit → Spells bytes.now p) }
+    ensures refused { result ≡ Err ReadFault.NotOfForm → (p : Straight) → Spells bytes.now p → ⊥ }
+{
+    source_of(alloc, bytes)
+}
+
+#[tactic(auto, unfolding(crate::specs::Source::source_at))]
+fn source_of(alloc: Global, bytes: &[u8]) -> Result<Straight, ReadFault>
     ensures { Reads (λ p. p) (source_at bytes.now) result }
 {
     let Some(head) = read_head(bytes) else {
