@@ -12,3 +12,4 @@ pub mod Built
 pub mod ReadLaws
 pub mod ToldLaws
 pub mod StopLaws
+pub mod Puts

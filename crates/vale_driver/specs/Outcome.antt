@@ -25,11 +25,16 @@ abbrev pub is_value : List ℕ → Bool
 is_value [] = false
 is_value (b ∷ bs) = not (b == 45)
 
+abbrev pub is_build : List ℕ → List ℕ → List ℕ → List ℕ → Bool
+is_build command syntax gas option =
+    (bytes_eq command (codes "build") && bytes_eq syntax (codes "--syntax")) && (bytes_eq gas (codes "gas") && bytes_eq option (codes "--cert"))
+
+abbrev pub files : List ℕ → List ℕ → Option Build
+files cert file = given (is_value cert && is_value file) record { cert = cert; file = file }
+
 -- `build --syntax gas --cert CERT FILE`
 abbrev pub form : List (List ℕ) → Option Build
-form (a ∷ b ∷ c ∷ d ∷ cert ∷ file ∷ []) =
-    given (bytes_eq a (codes "build") && (bytes_eq b (codes "--syntax") && (bytes_eq c (codes "gas") && (bytes_eq d (codes "--cert") && (is_value cert && is_value file)))))
-    record { cert = cert; file = file }
+form (command ∷ syntax ∷ gas ∷ option ∷ cert ∷ file ∷ []) = if is_build command syntax gas option then files cert file else None
 form _ = None
 
 abbrev pub or_dash : Option (List ℕ) → List ℕ
@@ -43,7 +48,7 @@ number_or_dash (Some n) = decimal n
 -- the line of a refusal: E, its number, the file, the place, who, and the cause, with `-` for a part that is absent
 unfoldable pub refusal_line : Refusal → List ℕ
 refusal_line r =
-    codes "E" ++ (decimal r.number ++ (codes " " ++ (or_dash r.file ++ (codes " " ++ (number_or_dash r.at ++ (codes " " ++ (or_dash r.who ++ (codes " " ++ (r.cause ++ codes "\n")))))))))
+    codes "E" ++ (decimal r.number ++ ((codes " " ++ or_dash r.file) ++ ((codes " " ++ number_or_dash r.at) ++ ((codes " " ++ or_dash r.who) ++ (codes " " ++ (r.cause ++ codes "\n"))))))
 
 unfoldable pub usage_line : List ℕ
 usage_line = codes "usage: vale COMMAND [OPTIONS] FILE..\n"

@@ -6,11 +6,16 @@ mod certificate;
 mod condition;
 mod gas;
 mod lower;
+mod program;
 mod reading;
+mod report;
 mod ring;
+
 mod source;
 mod status;
 mod straight;
+mod words;
 
+pub use program::run;
 pub use status::{Refusal, Status};
 pub use straight::Straight;

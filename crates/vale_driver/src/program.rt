@@ -1,0 +1,72 @@
+// The top call: words to text.
+
+ghost use Rattle.std.specs.Prelude.{◌≡◌, ℕ, List, IsTrue, IfSome, ◌⊎◌};
+ghost use Rattle.vale_driver.specs.Assembly.{joined};
+ghost use Rattle.vale_driver.specs.Outcome.{form, usage_line, read_fault_line, refusal_line};
+ghost use Rattle.vale_driver.specs.Ends.{texts, Ends, SaysOr};
+
+use crate::build::{Stop, build};
+use crate::report::{refusal_line, write_lines};
+use crate::status::{Refusal, Status};
+use crate::words::read_words;
+use std::alloc::Global;
+use vale_outside::{Sink, Store};
+use x64_syntax::Text;
+
+const USAGE: &[u8] = b"usage: vale COMMAND [OPTIONS] FILE..\n";
+const READ_FAULT: &[u8] = b"read fault\n";
+
+/// Runs the program on the words that follow its name. One command is taken,
+/// `build --syntax gas --cert CERT FILE`: it reads the source `FILE` and the certificate `CERT`, checks that the
+/// one proves the other, and writes the text of the source's export to `out`. Any other answer than
+/// [`Status::Done`] comes with one line on `err`, but for [`Status::NoMemory`], which writes nothing. See
+/// docs/COMMANDS.md.
+#[tactic(auto, unfolding(crate::specs::Outcome::usage_line, crate::specs::Outcome::read_fault_line))]
+pub fn run<S: Store, O: Sink, E: Sink>(
+    alloc: Global,
+    words: &Vec<String>,
+    store: &mut S,
+    out: &mut O,
+    err: &mut E,
+) -> Status
+    requires askable { IfSome (form (texts words.now.items)) (λ b. IsTrue (S.may_ask store.old b.cert) × IsTrue (S.may_ask store.old b.file)) }
+    ensures ends { Ends (form (texts words.now.items)) record { tells = S.tells store.old; store_old = S.faults store.old; store_new = S.faults store.new; out_old = O.faults out.old; out_new = O.faults out.new; err_old = E.faults err.old; err_new = E.faults err.new } record { out_old = O.told out.old; out_new = O.told out.new; err_old = E.told err.old; err_new = E.told err.new } result }
+{
+    let Some(names) = read_words(words) else {
+        return say(err, USAGE, Status::Usage);
+    };
+    match build(alloc, store, names.cert, names.file) {
+        Ok(lines) => finish(out, &lines),
+        Err(Stop::Refused(refusal)) => refuse(alloc, err, refusal),
+        Err(Stop::ReadFault) => say(err, READ_FAULT, Status::ReadFault),
+        Err(Stop::NoMemory) => Status::NoMemory,
+    }
+}
+
+// Writes a line to `err`, and answers with the status, or with WriteFault.
+fn say<E: Sink>(err: &mut E, line: &[u8], status: Status) -> Status
+    ensures { SaysOr status (E.told err.old) (E.told err.new) (E.faults err.old) (E.faults err.new) line.now result }
+{
+    match err.put(line) {
+        Ok(()) => status,
+        Err(_) => Status::WriteFault,
+    }
+}
+
+fn finish<O: Sink>(out: &mut O, lines: &[Text]) -> Status
+    ensures { SaysOr Status.Done (O.told out.old) (O.told out.new) (O.faults out.old) (O.faults out.new) (joined lines.now) result }
+{
+    match write_lines(out, lines) {
+        Ok(()) => Status::Done,
+        Err(_) => Status::WriteFault,
+    }
+}
+
+fn refuse<E: Sink>(alloc: Global, err: &mut E, refusal: Refusal) -> Status
+    ensures { SaysOr (Status.Refused refusal) (E.told err.old) (E.told err.new) (E.faults err.old) (E.faults err.new) (refusal_line refusal) result ⊎ ((result ≡ Status.NoMemory) × (E.told err.new ≡ E.told err.old)) }
+{
+    match refusal_line(alloc, &refusal) {
+        Ok(line) => say(err, &line, Status::Refused(refusal)),
+        Err(_) => Status::NoMemory,
+    }
+}
