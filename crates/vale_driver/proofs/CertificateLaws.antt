@@ -29,11 +29,11 @@ pair_is bytes x h =
     let ni = number_is a.0 i.0.1 i.0.0 i.1 in
     let nf = number_is b.0 f.0.1 f.0.0 f.1 in
     let text : bytes ≡ pair_text (i.0.0, f.0.0) c.0 =
-      strip_is (codes "[") bytes a.0 a.1
-      ∙ ap (λ y. codes "[" ++ y) (ni.0
-      ∙ ap (λ y. decimal i.0.0 ++ y) (strip_is (codes ",") i.0.1 b.0 b.1
-      ∙ ap (λ y. codes "," ++ y) (nf.0
-      ∙ ap (λ y. decimal f.0.0 ++ y) (strip_is (codes "]") f.0.1 c.0 c.1)))) in
+    strip_is (codes "[") bytes a.0 a.1
+    ∙ ap (λ y. codes "[" ++ y) (ni.0
+    ∙ ap (λ y. decimal i.0.0 ++ y) (strip_is (codes ",") i.0.1 b.0 b.1
+    ∙ ap (λ y. codes "," ++ y) (nf.0
+    ∙ ap (λ y. decimal f.0.0 ++ y) (strip_is (codes "]") f.0.1 c.0 c.1)))) in
     subst (λ (y : PairOf). (bytes ≡ pair_text y.0 y.1) × FitsPair y.0) g.1 (text, (leb-true _ _ g.0, nf.1))
 
 pair_takes : (p : Pair) (rest : List ℕ) → FitsPair p → pair_at (pair_text p rest) ≡ Some (p, rest)
@@ -57,8 +57,8 @@ one_more p (Some y) x h =
     let pair : ◌≡◌ {A = PairsOf} (p ∷ y.0, y.1) x = of_some _ _ h in
     (y.0, ap (λ t. Some (y.0, t)) (ap (λ (z : PairsOf). z.1) pair), sym (ap (λ (z : PairsOf). z.0) pair))
   where
-  of_some : (x y : PairsOf) → Some x ≡ Some y → x ≡ y
-  of_some x y h = cc
+    of_some : (x y : PairsOf) → Some x ≡ Some y → x ≡ y
+    of_some x y h = cc
 
 -- what pairs that are read say
 record Paired (bytes : List ℕ) (x : PairsOf) : Type 0 where
@@ -70,25 +70,25 @@ paired_none bytes x h =
     let pair : ◌≡◌ {A = PairsOf} ([], bytes) x = of_some _ _ h in
     subst (Paired bytes) pair (record { text = refl; fits = tt })
   where
-  of_some : (x y : PairsOf) → Some x ≡ Some y → x ≡ y
-  of_some x y h = cc
+    of_some : (x y : PairsOf) → Some x ≡ Some y → x ≡ y
+    of_some x y h = cc
 
 more_is : (n : ℕ) (bytes : List ℕ) (x : PairsOf) → more_at n bytes ≡ Some x → Paired bytes x
 unfolding more_at
 more_is zero bytes x h = paired_none bytes x h
 more_is (suc n) bytes x h = by_comma (strip (codes ",") bytes) refl h (λ bytes' x' k. more_is n bytes' x' k)
   where
-  by_comma : (o : Option (List ℕ)) → strip (codes ",") bytes ≡ o → behind_comma o bytes (λ rest. pair_at rest >>= λ p. with_pairs (p.0 ∷ []) (more_at n p.1)) ≡ Some x → ((bytes' : List ℕ) (x' : PairsOf) → more_at n bytes' ≡ Some x' → Paired bytes' x') → Paired bytes x
-  by_comma None e h again = paired_none bytes x h
-  by_comma (Some rest) e h again =
-    let p = bind_some (pair_at rest) _ _ h in
-    let m = one_more p.0.0 (more_at n p.0.1) x p.2 in
-    let here = pair_is rest p.0 p.1 in
-    let there = again p.0.1 (m.0, x.1) m.1 in
-    record {
-      text = strip_is (codes ",") bytes rest e ∙ ap (λ y. codes "," ++ y) (here.0 ∙ ap (pair_text p.0.0) there.text) ∙ ap (λ ps. more_text ps x.1) (sym m.2);
-      fits = subst (AllByRecursion FitsPair) (sym m.2) (here.1, there.fits);
-    }
+    by_comma : (o : Option (List ℕ)) → strip (codes ",") bytes ≡ o → behind_comma o bytes (λ rest. pair_at rest >>= λ p. with_pairs (p.0 ∷ []) (more_at n p.1)) ≡ Some x → ((bytes' : List ℕ) (x' : PairsOf) → more_at n bytes' ≡ Some x' → Paired bytes' x') → Paired bytes x
+    by_comma None e h again = paired_none bytes x h
+    by_comma (Some rest) e h again =
+        let p = bind_some (pair_at rest) _ _ h in
+        let m = one_more p.0.0 (more_at n p.0.1) x p.2 in
+        let here = pair_is rest p.0 p.1 in
+        let there = again p.0.1 (m.0, x.1) m.1 in
+        record {
+          text = strip_is (codes ",") bytes rest e ∙ ap (λ y. codes "," ++ y) (here.0 ∙ ap (pair_text p.0.0) there.text) ∙ ap (λ ps. more_text ps x.1) (sym m.2);
+          fits = subst (AllByRecursion FitsPair) (sym m.2) (here.1, there.fits);
+        }
 
 -- no comma stands in front
 abbrev no_comma : List ℕ → Type 0
@@ -111,7 +111,7 @@ length-more_text [] rest = omega arith
 length-more_text (p ∷ ps) rest =
     let more = length-more_text ps rest in
     let a : length (pair_text p (more_text ps rest)) ≡ 1 + (length (decimal p.0) + (1 + (length (decimal p.1) + (1 + length (more_text ps rest))))) =
-      omega (arith, length-append (decimal p.0) (codes "," ++ (decimal p.1 ++ (codes "]" ++ more_text ps rest))), length-append (decimal p.1) (codes "]" ++ more_text ps rest)) in
+    omega (arith, length-append (decimal p.0) (codes "," ++ (decimal p.1 ++ (codes "]" ++ more_text ps rest))), length-append (decimal p.1) (codes "]" ++ more_text ps rest)) in
     omega arith
 
 -- what a list that is read says
@@ -123,19 +123,20 @@ pairs_is : (bytes : List ℕ) (x : PairsOf) → pairs_at bytes ≡ Some x → Li
 unfolding pairs_at
 pairs_is bytes x h = by_test (begins_pair bytes) h
   where
-  of_some : (x y : PairsOf) → ◌≡◌ {A = Option PairsOf} (Some x) (Some y) → x ≡ y
-  of_some x y h = cc
-  by_test : (b : Bool) → ◌≡◌ {A = Option PairsOf} (cond b (pair_at bytes >>= λ p. with_pairs (p.0 ∷ []) (more_at (length p.1) p.1)) (Some ([], bytes))) (Some x) → Listed bytes x
-  by_test false h = subst (Listed bytes) (of_some _ _ h) (record { text = refl; fits = tt })
-  by_test true h =
-    let p = bind_some (pair_at bytes) _ _ h in
-    let m = one_more p.0.0 (more_at (length p.0.1) p.0.1) x p.2 in
-    let here = pair_is bytes p.0 p.1 in
-    let there = more_is (length p.0.1) p.0.1 (m.0, x.1) m.1 in
-    record {
-      text = here.0 ∙ ap (pair_text p.0.0) there.text ∙ ap (λ ps. pairs_text ps x.1) (sym m.2);
-      fits = subst (AllByRecursion FitsPair) (sym m.2) (here.1, there.fits);
-    }
+    of_some : (x y : PairsOf) → ◌≡◌ {A = Option PairsOf} (Some x) (Some y) → x ≡ y
+    of_some x y h = cc
+
+    by_test : (b : Bool) → ◌≡◌ {A = Option PairsOf} (cond b (pair_at bytes >>= λ p. with_pairs (p.0 ∷ []) (more_at (length p.1) p.1)) (Some ([], bytes))) (Some x) → Listed bytes x
+    by_test false h = subst (Listed bytes) (of_some _ _ h) (record { text = refl; fits = tt })
+    by_test true h =
+        let p = bind_some (pair_at bytes) _ _ h in
+        let m = one_more p.0.0 (more_at (length p.0.1) p.0.1) x p.2 in
+        let here = pair_is bytes p.0 p.1 in
+        let there = more_is (length p.0.1) p.0.1 (m.0, x.1) m.1 in
+        record {
+          text = here.0 ∙ ap (pair_text p.0.0) there.text ∙ ap (λ ps. pairs_text ps x.1) (sym m.2);
+          fits = subst (AllByRecursion FitsPair) (sym m.2) (here.1, there.fits);
+        }
 
 pairs_takes : (ps : List Pair) (rest : List ℕ) → AllByRecursion FitsPair ps → no_comma rest → begins_pair rest ≡ false → pairs_at (pairs_text ps rest) ≡ Some (ps, rest)
 unfolding pairs_at
@@ -157,12 +158,12 @@ certificate_is name bytes ps h =
     let e = ends_is c.0 g.0 in
     let l = pairs_is a.0 p.0 p.1 in
     let text : bytes ≡ certificate_text name p.0.0 (last e.0) =
-      strip_is (codes "{\"condition\":\"") bytes o1.0 o1.1
-      ∙ ap (λ y. codes "{\"condition\":\"" ++ y) (strip_is name o1.0 o2.0 o2.1
-      ∙ ap (λ y. name ++ y) (strip_is (codes "()#0\"}\n[\"ring\",[") o2.0 a.0 o2.2
-      ∙ ap (λ y. codes "()#0\"}\n[\"ring\",[" ++ y) (l.text
-      ∙ ap (pairs_text p.0.0) (strip_is (codes "]]") p.0.1 c.0 c.1
-      ∙ ap (λ y. codes "]]" ++ y) e.1)))) in
+    strip_is (codes "{\"condition\":\"") bytes o1.0 o1.1
+    ∙ ap (λ y. codes "{\"condition\":\"" ++ y) (strip_is name o1.0 o2.0 o2.1
+    ∙ ap (λ y. name ++ y) (strip_is (codes "()#0\"}\n[\"ring\",[") o2.0 a.0 o2.2
+    ∙ ap (λ y. codes "()#0\"}\n[\"ring\",[" ++ y) (l.text
+    ∙ ap (pairs_text p.0.0) (strip_is (codes "]]") p.0.1 c.0 c.1
+    ∙ ap (λ y. codes "]]" ++ y) e.1)))) in
     subst (λ qs. AllByRecursion FitsPair qs × ((b : Bool) × (bytes ≡ certificate_text name qs (last b)))) g.1 (l.fits, (e.0, text))
 
 closing_no_comma : (rest : List ℕ) → no_comma (codes "]]" ++ rest)
@@ -177,7 +178,7 @@ certificate_takes name ps b fits =
     let r2 = pairs_text ps r3 in
     let r1 = codes "()#0\"}\n[\"ring\",[" ++ r2 in
     ap (λ o. o >>= λ a. pairs_at a >>= λ p. strip (codes "]]") p.1 >>= λ d. given (ends d) p.0)
-      (takes (codes "{\"condition\":\"") (name ++ r1) _ ∙ takes name r1 _ ∙ strip_takes (codes "()#0\"}\n[\"ring\",[") r2)
+    (takes (codes "{\"condition\":\"") (name ++ r1) _ ∙ takes name r1 _ ∙ strip_takes (codes "()#0\"}\n[\"ring\",[") r2)
     ∙ ap (λ o. o >>= λ p. strip (codes "]]") p.1 >>= λ d. given (ends d) p.0) (pairs_takes ps r3 fits (closing_no_comma (last b)) refl)
     ∙ takes (codes "]]") (last b) _
     ∙ ap (λ t. given t ps) (last_ends b)

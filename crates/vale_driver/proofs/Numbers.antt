@@ -23,9 +23,9 @@ number_some ds n fits e = sym (number_of-decimal n fits) ∙ ap number_of e
 pub number_none : (ds : List ℕ) → ((n : ℕ) → n < 2 ^ 64 → decimal n ≡ ds → ⊥) → None ≡ number_of ds
 number_none ds h = by_test _ refl
   where
-  by_test : (b : Bool) → (ltb (digits_value 10 ds) (2 ^ 64) && bytes_eq (decimal (digits_value 10 ds)) ds) ≡ b → None ≡ given b (digits_value 10 ds)
-  by_test false e = refl
-  by_test true e = let p = and_parts _ _ e in absurd (h (digits_value 10 ds) (ltb-true _ _ p.0) ((bytes_eq-Decides _ _).0 p.1))
+    by_test : (b : Bool) → (ltb (digits_value 10 ds) (2 ^ 64) && bytes_eq (decimal (digits_value 10 ds)) ds) ≡ b → None ≡ given b (digits_value 10 ds)
+    by_test false e = refl
+    by_test true e = let p = and_parts _ _ e in absurd (h (digits_value 10 ds) (ltb-true _ _ p.0) ((bytes_eq-Decides _ _).0 p.1))
 
 pub number_parsed : {E : Type 0} (text ds : List ℕ) (r : Result ℕ E) → text ≡ ds → ParsesUnsigned 64 10 text r → (n : ℕ) → n < 2 ^ 64 → decimal n ≡ ds → r ≡ Ok n
 number_parsed text ds r t p n fits e = parse-decimal 64 n text r fits fits (t ∙ sym e) p

@@ -53,9 +53,9 @@ prefix_len_stops : (p : ℕ → Bool) (rest : List ℕ) → stops p rest ≡ tru
 prefix_len_stops p [] h = refl
 prefix_len_stops p (b ∷ bs) h = by_test (p b) h
   where
-  by_test : (t : Bool) → not t ≡ true → cond t (1 + prefix_len p bs) 0 ≡ 0
-  by_test true h = absurd (false≢true h)
-  by_test false h = refl
+    by_test : (t : Bool) → not t ≡ true → cond t (1 + prefix_len p bs) 0 ≡ 0
+    by_test true h = absurd (false≢true h)
+    by_test false h = refl
 
 prefix_len_front : (p : ℕ → Bool) (w rest : List ℕ) → list_all p w ≡ true → stops p rest ≡ true → prefix_len p (w ++ rest) ≡ length w
 prefix_len_front p [] rest h s = prefix_len_stops p rest s
@@ -89,8 +89,8 @@ one_digit d h = and_from _ _ (le-leb 48 (48 + d) (omega arith)) (le-leb (48 + d)
 pub digits-decimal : (n : ℕ) → n < 2 ^ 64 → list_all is_digit_byte (decimal n) ≡ true
 digits-decimal =
     decimal_by_steps (λ n ds. list_all is_digit_byte ds ≡ true)
-      (λ n h. and_from _ _ (one_digit n h) refl)
-      (λ n ds h k. list_all-append is_digit_byte ds ((48 + n % 10) ∷ []) k (and_from _ _ (one_digit (n % 10) (omega arith)) refl))
+    (λ n h. and_from _ _ (one_digit n h) refl)
+    (λ n ds h k. list_all-append is_digit_byte ds ((48 + n % 10) ∷ []) k (and_from _ _ (one_digit (n % 10) (omega arith)) refl))
 
 -- what a number that is read says
 pub number_is : (bytes rest : List ℕ) (n : ℕ) → number_at bytes ≡ Some (n, rest) → (bytes ≡ decimal n ++ rest) × (n < 2 ^ 64)
@@ -105,16 +105,18 @@ number_is bytes rest n h =
     let fits : m < 2 ^ 64 = subst (λ k. k < 2 ^ 64) g.1 (ltb-true _ _ both.0) in
     let pair : Some (m, s.1) ≡ Some (n, rest) = b.2 in
     let first : m ≡ n = ap (λ (o : Option (ℕ × List ℕ)). first_of o) pair in
-    let second : s.1 ≡ rest = ap (λ (o : Option (ℕ × List ℕ)). rest_of o) pair in
-    ( span_whole is_digit_byte bytes ∙ ap (λ x. x ++ s.1) (sym text) ∙ ap (λ x. decimal m ++ x) second ∙ ap (λ k. decimal k ++ rest) first
-    , subst (λ k. k < 2 ^ 64) first fits )
+    let second : s.1 ≡ rest = ap (λ (o : Option (ℕ × List ℕ)). rest_of o) pair in (
+      span_whole is_digit_byte bytes ∙ ap (λ x. x ++ s.1) (sym text) ∙ ap (λ x. decimal m ++ x) second ∙ ap (λ k. decimal k ++ rest) first,
+      subst (λ k. k < 2 ^ 64) first fits,
+    )
   where
-  first_of : Option (ℕ × List ℕ) → ℕ
-  first_of None = 0
-  first_of (Some x) = x.0
-  rest_of : Option (ℕ × List ℕ) → List ℕ
-  rest_of None = []
-  rest_of (Some x) = x.1
+    first_of : Option (ℕ × List ℕ) → ℕ
+    first_of None = 0
+    first_of (Some x) = x.0
+
+    rest_of : Option (ℕ × List ℕ) → List ℕ
+    rest_of None = []
+    rest_of (Some x) = x.1
 
 pub number_takes : (n : ℕ) (rest : List ℕ) → n < 2 ^ 64 → stops is_digit_byte rest ≡ true → number_at (decimal n ++ rest) ≡ Some (n, rest)
 unfolding number_at
@@ -126,16 +128,16 @@ number_takes n rest fits s =
 pub first_same : {A : Type 0} (x y : A) (r t : List ℕ) → ◌≡◌ {A = Option (A × List ℕ)} (Some (x, r)) (Some (y, t)) → x ≡ y
 first_same {A = A} x y r t h = ap (λ o. part o) h
   where
-  part : Option (A × List ℕ) → A
-  part None = x
-  part (Some z) = z.0
+    part : Option (A × List ℕ) → A
+    part None = x
+    part (Some z) = z.0
 
 pub rest_same : {A : Type 0} (x y : A) (r t : List ℕ) → ◌≡◌ {A = Option (A × List ℕ)} (Some (x, r)) (Some (y, t)) → r ≡ t
 rest_same {A = A} x y r t h = ap (λ o. part o) h
   where
-  part : Option (A × List ℕ) → List ℕ
-  part None = r
-  part (Some z) = z.1
+    part : Option (A × List ℕ) → List ℕ
+    part None = r
+    part (Some z) = z.1
 
 pub not_true : (b : Bool) → not b ≡ true → b ≡ false
 not_true true h = absurd (false≢true h)
@@ -187,9 +189,9 @@ find_name [] name r h = absurd cc
 find_name (q ∷ rs) name r h = by_test (bytes_eq (reg_name q) name) refl h
     (λ k. find_name rs name r k)
   where
-  by_test : (b : Bool) → bytes_eq (reg_name q) name ≡ b → cond b (Some q) (find (λ q. bytes_eq (reg_name q) name) rs) ≡ Some r → (find (λ q. bytes_eq (reg_name q) name) rs ≡ Some r → reg_name r ≡ name) → reg_name r ≡ name
-  by_test true e h k = let same : q ≡ r = cc in ap reg_name (sym same) ∙ (bytes_eq-Decides _ name).0 e
-  by_test false e h k = k h
+    by_test : (b : Bool) → bytes_eq (reg_name q) name ≡ b → cond b (Some q) (find (λ q. bytes_eq (reg_name q) name) rs) ≡ Some r → (find (λ q. bytes_eq (reg_name q) name) rs ≡ Some r → reg_name r ≡ name) → reg_name r ≡ name
+    by_test true e h k = let same : q ≡ r = cc in ap reg_name (sym same) ∙ (bytes_eq-Decides _ name).0 e
+    by_test false e h k = k h
 
 pub register_is : (bytes rest : List ℕ) (r : Reg) → register_at bytes ≡ Some (r, rest) → (bytes ≡ reg_name r ++ rest) × ((reg_number r == 7) ≡ false)
 unfolding register_at
@@ -199,9 +201,10 @@ register_is bytes rest r h =
     let g = given_some _ _ _ b.2 in
     let first = ap (λ (x : Reg × List ℕ). x.0) g.1 in
     let second = ap (λ (x : Reg × List ℕ). x.1) g.1 in
-    let name = find_name ALL_REGS s.0 b.0 b.1 in
-    ( span_whole is_name_byte bytes ∙ ap (λ x. x ++ s.1) (sym name) ∙ ap (λ q. reg_name q ++ s.1) first ∙ ap (λ x. reg_name r ++ x) second
-    , subst (λ q. (reg_number q == 7) ≡ false) first (not_true _ g.0) )
+    let name = find_name ALL_REGS s.0 b.0 b.1 in (
+      span_whole is_name_byte bytes ∙ ap (λ x. x ++ s.1) (sym name) ∙ ap (λ q. reg_name q ++ s.1) first ∙ ap (λ x. reg_name r ++ x) second,
+      subst (λ q. (reg_number q == 7) ≡ false) first (not_true _ g.0),
+    )
 
 pub register_takes : (r : Reg) (rest : List ℕ) → (reg_number r == 7) ≡ false → stops is_name_byte rest ≡ true → register_at (reg_name r ++ rest) ≡ Some (r, rest)
 unfolding register_at
@@ -226,9 +229,10 @@ negative_is bytes rest z h =
     let first : negsuc (n.0 - 1) ≡ z = ap (λ (x : ℤ × List ℕ). x.0) g.1 in
     let second = ap (λ (x : ℤ × List ℕ). x.1) g.1 in
     let text = (number_is bytes n.1 n.0 b.1).0 in
-    let e : n.0 ≡ suc (n.0 - 1) = omega arith in
-    ( ap (λ x. 45 ∷ x) (text ∙ ap (λ k. decimal k ++ n.1) e) ∙ ap (λ x. signed_decimal x ++ n.1) first ∙ ap (λ x. signed_decimal z ++ x) second
-    , subst Fits32 first (omega (arith, ints), omega (arith, ints)) )
+    let e : n.0 ≡ suc (n.0 - 1) = omega arith in (
+      ap (λ x. 45 ∷ x) (text ∙ ap (λ k. decimal k ++ n.1) e) ∙ ap (λ x. signed_decimal x ++ n.1) first ∙ ap (λ x. signed_decimal z ++ x) second,
+      subst Fits32 first (omega (arith, ints), omega (arith, ints)),
+    )
 
 positive_is : (bytes rest : List ℕ) (z : ℤ) → positive_at bytes ≡ Some (z, rest) → (bytes ≡ signed_decimal z ++ rest) × Fits32 z
 unfolding positive_at
@@ -239,17 +243,18 @@ positive_is bytes rest z h =
     let high : n.0 < 2 ^ 31 = ltb-true _ _ g.0 in
     let first : pos n.0 ≡ z = ap (λ (x : ℤ × List ℕ). x.0) g.1 in
     let second = ap (λ (x : ℤ × List ℕ). x.1) g.1 in
-    let text = (number_is bytes n.1 n.0 b.1).0 in
-    ( text ∙ ap (λ x. signed_decimal x ++ n.1) first ∙ ap (λ x. signed_decimal z ++ x) second
-    , subst Fits32 first (omega (arith, ints), omega (arith, ints)) )
+    let text = (number_is bytes n.1 n.0 b.1).0 in (
+      text ∙ ap (λ x. signed_decimal x ++ n.1) first ∙ ap (λ x. signed_decimal z ++ x) second,
+      subst Fits32 first (omega (arith, ints), omega (arith, ints)),
+    )
 
 pub signed_is : (bytes rest : List ℕ) (z : ℤ) → signed_at bytes ≡ Some (z, rest) → (bytes ≡ signed_decimal z ++ rest) × Fits32 z
 unfolding signed_at
 signed_is bytes rest z h = by_sign (strip (codes "-") bytes) refl h
   where
-  by_sign : (o : Option (List ℕ)) → strip (codes "-") bytes ≡ o → signed_after o bytes ≡ Some (z, rest) → (bytes ≡ signed_decimal z ++ rest) × Fits32 z
-  by_sign None e h = positive_is bytes rest z h
-  by_sign (Some behind) e h = let n = negative_is behind rest z h in (strip_is (codes "-") bytes behind e ∙ n.0, n.1)
+    by_sign : (o : Option (List ℕ)) → strip (codes "-") bytes ≡ o → signed_after o bytes ≡ Some (z, rest) → (bytes ≡ signed_decimal z ++ rest) × Fits32 z
+    by_sign None e h = positive_is bytes rest z h
+    by_sign (Some behind) e h = let n = negative_is behind rest z h in (strip_is (codes "-") bytes behind e ∙ n.0, n.1)
 
 -- no - stands in front of a number without a sign
 strip_digit : (ds rest : List ℕ) → list_all is_digit_byte ds ≡ true → 0 < length ds → strip (codes "-") (ds ++ rest) ≡ None

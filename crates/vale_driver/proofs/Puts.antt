@@ -27,7 +27,7 @@ front_bytes told now x y z h =
     let few : k ≤ length y = omega arith in
     let total : length now - length told ≡ length x + k = omega arith in
     let taken : take (length now - length told) (x ++ (y ++ z)) ≡ x ++ take k y =
-      ap (λ n. take n (x ++ (y ++ z))) total ∙ take-append-add x (y ++ z) k ∙ ap (λ l. x ++ l) (take-append-le k y z few) in
+    ap (λ n. take n (x ++ (y ++ z))) total ∙ take-append-add x (y ++ z) k ∙ ap (λ l. x ++ l) (take-append-le k y z few) in
     h ∙ append_assoc told x (take k y) ∙ ap (λ l. told ++ l) (sym taken)
 
 pub front_next : (old mid new : Option (List ℕ)) (x y z : List ℕ) → Appends old mid x → AppendsFront mid new y → AppendsFront old new (x ++ (y ++ z))

@@ -18,9 +18,9 @@ coefficient-lt : (m : Option Tm) (os : List Occurrence) → coefficient m os < T
 coefficient-lt m [] = omega arith
 coefficient-lt m (o ∷ os) = either (same_atom m o.atom) (coefficient-lt m os)
   where
-  either : (b : Bool) → coefficient m os < T → cond b ((o.coefficient + coefficient m os) % T) (coefficient m os) < T
-  either true h = mod_below (o.coefficient + coefficient m os) T (omega arith)
-  either false h = h
+    either : (b : Bool) → coefficient m os < T → cond b ((o.coefficient + coefficient m os) % T) (coefficient m os) < T
+    either true h = mod_below (o.coefficient + coefficient m os) T (omega arith)
+    either false h = h
 
 pub drop_all : {A : Type 0} (n : ℕ) (xs : List A) → length xs ≤ n → drop n xs ≡ []
 drop_all zero [] h = refl
@@ -64,20 +64,21 @@ module _ (hyps : List Tm) (p : Pair) (ps : List Pair) where
   unfolding hypothesis_sides_of
   weighted_none h = by_get (slice_get hyps p.0) h
     where
-    by_get : (o : Option Tm) → None ≡ (o >>= sides) → ◌≡◌ {A = Option Weighted} (o >>= λ h. sides h >>= λ s. weighted hyps ps >>= λ w. Some record { occurrences_ = times p.1 (difference s.left s.right) ++ w.occurrences_; width_ = (width s.left + width s.right) + w.width_ }) None
-    by_get None h = refl
-    by_get (Some t) h = ap (λ o. o >>= λ s. weighted hyps ps >>= λ w. Some record { occurrences_ = times p.1 (difference s.left s.right) ++ w.occurrences_; width_ = (width s.left + width s.right) + w.width_ }) (sym h)
+      by_get : (o : Option Tm) → None ≡ (o >>= sides) → ◌≡◌ {A = Option Weighted} (o >>= λ h. sides h >>= λ s. weighted hyps ps >>= λ w. Some record { occurrences_ = times p.1 (difference s.left s.right) ++ w.occurrences_; width_ = (width s.left + width s.right) + w.width_ }) None
+      by_get None h = refl
+      by_get (Some t) h = ap (λ o. o >>= λ s. weighted hyps ps >>= λ w. Some record { occurrences_ = times p.1 (difference s.left s.right) ++ w.occurrences_; width_ = (width s.left + width s.right) + w.width_ }) (sym h)
 
   weighted_some : (s : Sides) → Some s ≡ hypothesis_sides_of hyps p.0 → weighted hyps (p ∷ ps) ≡ in_front (times p.1 (difference s.left s.right)) (width s.left + width s.right) (weighted hyps ps)
   unfolding hypothesis_sides_of
   weighted_some s h = by_get (slice_get hyps p.0) h ∙ by_rest (weighted hyps ps)
     where
-    by_get : (o : Option Tm) → Some s ≡ (o >>= sides) → ◌≡◌ {A = Option Weighted} (o >>= λ h. sides h >>= λ s. weighted hyps ps >>= λ w. Some record { occurrences_ = times p.1 (difference s.left s.right) ++ w.occurrences_; width_ = (width s.left + width s.right) + w.width_ }) (weighted hyps ps >>= λ w. Some record { occurrences_ = times p.1 (difference s.left s.right) ++ w.occurrences_; width_ = (width s.left + width s.right) + w.width_ })
-    by_get None h = absurd cc
-    by_get (Some t) h = ap (λ o. o >>= λ s. weighted hyps ps >>= λ w. Some record { occurrences_ = times p.1 (difference s.left s.right) ++ w.occurrences_; width_ = (width s.left + width s.right) + w.width_ }) (sym h)
-    by_rest : (x : Option Weighted) → ◌≡◌ {A = Option Weighted} (x >>= λ w. Some record { occurrences_ = times p.1 (difference s.left s.right) ++ w.occurrences_; width_ = (width s.left + width s.right) + w.width_ }) (in_front (times p.1 (difference s.left s.right)) (width s.left + width s.right) x)
-    by_rest None = refl
-    by_rest (Some w) = refl
+      by_get : (o : Option Tm) → Some s ≡ (o >>= sides) → ◌≡◌ {A = Option Weighted} (o >>= λ h. sides h >>= λ s. weighted hyps ps >>= λ w. Some record { occurrences_ = times p.1 (difference s.left s.right) ++ w.occurrences_; width_ = (width s.left + width s.right) + w.width_ }) (weighted hyps ps >>= λ w. Some record { occurrences_ = times p.1 (difference s.left s.right) ++ w.occurrences_; width_ = (width s.left + width s.right) + w.width_ })
+      by_get None h = absurd cc
+      by_get (Some t) h = ap (λ o. o >>= λ s. weighted hyps ps >>= λ w. Some record { occurrences_ = times p.1 (difference s.left s.right) ++ w.occurrences_; width_ = (width s.left + width s.right) + w.width_ }) (sym h)
+
+      by_rest : (x : Option Weighted) → ◌≡◌ {A = Option Weighted} (x >>= λ w. Some record { occurrences_ = times p.1 (difference s.left s.right) ++ w.occurrences_; width_ = (width s.left + width s.right) + w.width_ }) (in_front (times p.1 (difference s.left s.right)) (width s.left + width s.right) x)
+      by_rest None = refl
+      by_rest (Some w) = refl
 
 too_wide : (os : List Occurrence) (w : ℕ) (x : Option Weighted) → width_limit < w → Never (in_front os w x)
 too_wide os w None h g = refl

@@ -66,9 +66,9 @@ module _ (a : Assignment) where
   total-occurrences (W64 n) = ap (λ m. m % T) (mod-eq_of_lt (mod_below n T (omega arith)) ∙ omega arith)
   total-occurrences (Bin bin.Add t u) = by_sort (sort_eq (tm_sort t) sort.W64) refl (total-occurrences t) (total-occurrences u)
     where
-    by_sort : (b : Bool) → sort_eq (tm_sort t) sort.W64 ≡ b → Alike (word (value a t)) (total (occurrences t)) → Alike (word (value a u)) (total (occurrences u)) → Alike (word (value a (Bin bin.Add t u))) (total (cond b (occurrences t ++ occurrences u) (alone (Bin bin.Add t u))))
-    by_sort true e ht hu = sum_worth t u e ∙ alike_add _ _ _ _ ht hu ∙ ap (λ n. n % T) (sym (total-append (occurrences t) (occurrences u)))
-    by_sort false e ht hu = total-alone (Bin bin.Add t u)
+      by_sort : (b : Bool) → sort_eq (tm_sort t) sort.W64 ≡ b → Alike (word (value a t)) (total (occurrences t)) → Alike (word (value a u)) (total (occurrences u)) → Alike (word (value a (Bin bin.Add t u))) (total (cond b (occurrences t ++ occurrences u) (alone (Bin bin.Add t u))))
+      by_sort true e ht hu = sum_worth t u e ∙ alike_add _ _ _ _ ht hu ∙ ap (λ n. n % T) (sym (total-append (occurrences t) (occurrences u)))
+      by_sort false e ht hu = total-alone (Bin bin.Add t u)
   total-occurrences t = total-alone t
 
   total-times : (f : ℕ) (os : List Occurrence) → Alike (total (times f os)) (f * total os)
@@ -77,8 +77,8 @@ module _ (a : Assignment) where
   total-times f (o ∷ os) =
       let w = worth o.atom in
       alike_add ((f * o.coefficient) % T * w) (f * (o.coefficient * w)) (total (times f os)) (f * total os)
-        (mul-mod_first (f * o.coefficient) w T ∙ ap (λ n. n % T) (mul_assoc f o.coefficient w))
-        (total-times f os)
+      (mul-mod_first (f * o.coefficient) w T ∙ ap (λ n. n % T) (mul_assoc f o.coefficient w))
+      (total-times f os)
       ∙ ap (λ n. n % T) (let e : f * (o.coefficient * w) + f * total os ≡ f * (o.coefficient * w + total os) = omega arith in e)
 
   -- the occurrences of other monomials
@@ -102,31 +102,31 @@ module _ (a : Assignment) where
   total-without m [] = let e : 0 ≡ 0 * worth m + 0 = omega arith in ap (λ n. n % T) e
   total-without m (o ∷ os) = by_test (same_atom m o.atom) refl (total-without m os)
     where
-    by_test : (b : Bool) → same_atom m o.atom ≡ b → Alike (total os) (coefficient m os * worth m + total (without m os)) → Alike (o.coefficient * worth o.atom + total os) (cond b ((o.coefficient + coefficient m os) % T) (coefficient m os) * worth m + total (cond b (without m os) (o ∷ without m os)))
-    by_test true e h =
-        let w = worth m in
-        let c = o.coefficient in
-        let d = coefficient m os in
-        let r = total (without m os) in
-        let atom : c * worth o.atom ≡ c * w = ap (λ n. c * worth n) (sym (same_atom_is m o.atom e)) in
-        ap (λ n. (n + total os) % T) atom
-        ∙ alike_add (c * w) (c * w) (total os) (d * w + r) refl h
-        ∙ ap (λ n. n % T) (let e : c * w + (d * w + r) ≡ (c + d) * w + r = omega arith in e)
-        ∙ alike_add ((c + d) * w) ((c + d) % T * w) r r (sym (mul-mod_first (c + d) w T)) refl
-    by_test false e h =
-        let x = o.coefficient * worth o.atom in
-        let y = coefficient m os * worth m in
-        let r = total (without m os) in
-        alike_add x x (total os) (y + r) refl h ∙ ap (λ n. n % T) (let e : x + (y + r) ≡ y + (x + r) = omega arith in e)
+      by_test : (b : Bool) → same_atom m o.atom ≡ b → Alike (total os) (coefficient m os * worth m + total (without m os)) → Alike (o.coefficient * worth o.atom + total os) (cond b ((o.coefficient + coefficient m os) % T) (coefficient m os) * worth m + total (cond b (without m os) (o ∷ without m os)))
+      by_test true e h =
+          let w = worth m in
+          let c = o.coefficient in
+          let d = coefficient m os in
+          let r = total (without m os) in
+          let atom : c * worth o.atom ≡ c * w = ap (λ n. c * worth n) (sym (same_atom_is m o.atom e)) in
+          ap (λ n. (n + total os) % T) atom
+          ∙ alike_add (c * w) (c * w) (total os) (d * w + r) refl h
+          ∙ ap (λ n. n % T) (let e : c * w + (d * w + r) ≡ (c + d) * w + r = omega arith in e)
+          ∙ alike_add ((c + d) * w) ((c + d) % T * w) r r (sym (mul-mod_first (c + d) w T)) refl
+      by_test false e h =
+          let x = o.coefficient * worth o.atom in
+          let y = coefficient m os * worth m in
+          let r = total (without m os) in
+          alike_add x x (total os) (y + r) refl h ∙ ap (λ n. n % T) (let e : x + (y + r) ≡ y + (x + r) = omega arith in e)
 
   length-without : (m : Option Tm) (os : List Occurrence) → length (without m os) ≤ length os
   unfolding without
   length-without m [] = omega arith
   length-without m (o ∷ os) = by_test (same_atom m o.atom) (length-without m os)
     where
-    by_test : (b : Bool) → length (without m os) ≤ length os → length (cond b (without m os) (o ∷ without m os)) ≤ suc (length os)
-    by_test true h = omega arith
-    by_test false h = omega arith
+      by_test : (b : Bool) → length (without m os) ≤ length os → length (cond b (without m os) (o ∷ without m os)) ≤ suc (length os)
+      by_test true h = omega arith
+      by_test false h = omega arith
 
   -- the monomial itself is gone, and others keep their coefficients
   coefficient-gone : (m : Option Tm) (os : List Occurrence) → coefficient m (without m os) ≡ 0
@@ -134,20 +134,20 @@ module _ (a : Assignment) where
   coefficient-gone m [] = refl
   coefficient-gone m (o ∷ os) = by_test (same_atom m o.atom) refl (coefficient-gone m os)
     where
-    by_test : (b : Bool) → same_atom m o.atom ≡ b → coefficient m (without m os) ≡ 0 → coefficient m (cond b (without m os) (o ∷ without m os)) ≡ 0
-    by_test true e h = h
-    by_test false e h = ap (λ b. cond b ((o.coefficient + coefficient m (without m os)) % T) (coefficient m (without m os))) e ∙ h
+      by_test : (b : Bool) → same_atom m o.atom ≡ b → coefficient m (without m os) ≡ 0 → coefficient m (cond b (without m os) (o ∷ without m os)) ≡ 0
+      by_test true e h = h
+      by_test false e h = ap (λ b. cond b ((o.coefficient + coefficient m (without m os)) % T) (coefficient m (without m os))) e ∙ h
 
   coefficient-kept : (n m : Option Tm) (os : List Occurrence) → same_atom n m ≡ false → coefficient n (without m os) ≡ coefficient n os
   unfolding without
   coefficient-kept n m [] h = refl
   coefficient-kept n m (o ∷ os) h = by_test (same_atom m o.atom) refl (coefficient-kept n m os h)
     where
-    by_test : (b : Bool) → same_atom m o.atom ≡ b → coefficient n (without m os) ≡ coefficient n os → coefficient n (cond b (without m os) (o ∷ without m os)) ≡ coefficient n (o ∷ os)
-    by_test true e k =
-        let other : same_atom n o.atom ≡ false = ap (same_atom n) (sym (same_atom_is m o.atom e)) ∙ h in
-        k ∙ ap (λ b. cond b ((o.coefficient + coefficient n os) % T) (coefficient n os)) (sym other)
-    by_test false e k = ap (λ c. cond (same_atom n o.atom) ((o.coefficient + c) % T) c) k
+      by_test : (b : Bool) → same_atom m o.atom ≡ b → coefficient n (without m os) ≡ coefficient n os → coefficient n (cond b (without m os) (o ∷ without m os)) ≡ coefficient n (o ∷ os)
+      by_test true e k =
+          let other : same_atom n o.atom ≡ false = ap (same_atom n) (sym (same_atom_is m o.atom e)) ∙ h in
+          k ∙ ap (λ b. cond b ((o.coefficient + coefficient n os) % T) (coefficient n os)) (sym other)
+      by_test false e k = ap (λ c. cond (same_atom n o.atom) ((o.coefficient + c) % T) c) k
 
   -- every monomial has the same coefficient on both sides
   record Agrees (left right : List Occurrence) : Type 0 where
@@ -156,11 +156,11 @@ module _ (a : Assignment) where
   agrees-without : (left right : List Occurrence) (m : Option Tm) → Agrees left right → Agrees (without m left) (without m right)
   agrees-without left right m h = record { each = λ n. by_test n (same_atom n m) refl }
     where
-    by_test : (n : Option Tm) (b : Bool) → same_atom n m ≡ b → coefficient n (without m left) ≡ coefficient n (without m right)
-    by_test n true e =
-        ap (λ k. coefficient k (without m left)) (same_atom_is n m e) ∙ coefficient-gone m left
-        ∙ sym (coefficient-gone m right) ∙ ap (λ k. coefficient k (without m right)) (sym (same_atom_is n m e))
-    by_test n false e = coefficient-kept n m left e ∙ h.each n ∙ sym (coefficient-kept n m right e)
+      by_test : (n : Option Tm) (b : Bool) → same_atom n m ≡ b → coefficient n (without m left) ≡ coefficient n (without m right)
+      by_test n true e =
+          ap (λ k. coefficient k (without m left)) (same_atom_is n m e) ∙ coefficient-gone m left
+          ∙ sym (coefficient-gone m right) ∙ ap (λ k. coefficient k (without m right)) (sym (same_atom_is n m e))
+      by_test n false e = coefficient-kept n m left e ∙ h.each n ∙ sym (coefficient-kept n m right e)
 
   -- then both sides are worth the same
   one_monomial : (m : Option Tm) (left right : List Occurrence) → Agrees left right → Alike (total (without m left)) (total (without m right)) → Alike (total left) (total right)
@@ -198,9 +198,9 @@ module _ (a : Assignment) where
       let p = and_parts (not (same_atom m o.atom)) _ h in
       ap (λ b. cond b ((o.coefficient + coefficient m os) % T) (coefficient m os)) (negated _ p.0) ∙ coefficient-absent m os p.1
     where
-    negated : (b : Bool) → not b ≡ true → b ≡ false
-    negated true h = absurd (false≢true h)
-    negated false h = refl
+      negated : (b : Bool) → not b ≡ true → b ≡ false
+      negated true h = absurd (false≢true h)
+      negated false h = refl
 
   -- monomials that occur have equal coefficients, and so have those that don't
   tested : (left right os : List Occurrence) → list_all (λ o. eqb (coefficient o.atom left) (coefficient o.atom right)) os ≡ true → (m : Option Tm) → (coefficient m left ≡ coefficient m right) ⊎ (absent m os ≡ true)
@@ -210,10 +210,10 @@ module _ (a : Assignment) where
       let p = and_parts (eqb (coefficient o.atom left) (coefficient o.atom right)) _ h in
       by_test (same_atom m o.atom) refl (eqb-true _ _ p.0) (tested left right os p.1 m)
     where
-    by_test : (b : Bool) → same_atom m o.atom ≡ b → coefficient o.atom left ≡ coefficient o.atom right → (coefficient m left ≡ coefficient m right) ⊎ (list_all (λ o. not (same_atom m o.atom)) os ≡ true) → (coefficient m left ≡ coefficient m right) ⊎ ((not (same_atom m o.atom) && list_all (λ o. not (same_atom m o.atom)) os) ≡ true)
-    by_test true e h k = inl (subst (λ n. coefficient n left ≡ coefficient n right) (sym (same_atom_is m o.atom e)) h)
-    by_test false e h (inl k) = inl k
-    by_test false e h (inr k) = inr (and_from _ _ (ap not e) k)
+      by_test : (b : Bool) → same_atom m o.atom ≡ b → coefficient o.atom left ≡ coefficient o.atom right → (coefficient m left ≡ coefficient m right) ⊎ (list_all (λ o. not (same_atom m o.atom)) os ≡ true) → (coefficient m left ≡ coefficient m right) ⊎ ((not (same_atom m o.atom) && list_all (λ o. not (same_atom m o.atom)) os) ≡ true)
+      by_test true e h k = inl (subst (λ n. coefficient n left ≡ coefficient n right) (sym (same_atom_is m o.atom e)) h)
+      by_test false e h (inl k) = inl k
+      by_test false e h (inr k) = inr (and_from _ _ (ap not e) k)
 
   absent_parts : (m : Option Tm) (os ps : List Occurrence) → absent m (os ++ ps) ≡ true → (absent m os ≡ true) × (absent m ps ≡ true)
   unfolding absent
@@ -226,9 +226,9 @@ module _ (a : Assignment) where
   agrees-balanced : (left right : List Occurrence) → balanced left right ≡ true → Agrees left right
   agrees-balanced left right h = record { each = λ m. by_case m (tested left right (left ++ right) h m) }
     where
-    by_case : (m : Option Tm) → (coefficient m left ≡ coefficient m right) ⊎ (absent m (left ++ right) ≡ true) → coefficient m left ≡ coefficient m right
-    by_case m (inl e) = e
-    by_case m (inr e) = let p = absent_parts m left right e in coefficient-absent m left p.0 ∙ sym (coefficient-absent m right p.1)
+      by_case : (m : Option Tm) → (coefficient m left ≡ coefficient m right) ⊎ (absent m (left ++ right) ≡ true) → coefficient m left ≡ coefficient m right
+      by_case m (inl e) = e
+      by_case m (inr e) = let p = absent_parts m left right e in coefficient-absent m left p.0 ∙ sym (coefficient-absent m right p.1)
 
   -- what a difference is worth
   total-difference : (l r : Tm) → Alike (total (difference l r)) (word (value a l) + (T - 1) * word (value a r))
@@ -289,10 +289,11 @@ module _ (a : Assignment) where
   unfolding total
   weighted_none hyps ok [] w h = let e : record { occurrences_ = []; width_ = 0 } ≡ w = of_some _ _ h in ap (λ (x : Weighted). total x.occurrences_ % T) (sym e) ∙ nothing
     where
-    of_some : (x y : Weighted) → Some x ≡ Some y → x ≡ y
-    of_some x y h = cc
-    nothing : Alike (total []) 0
-    nothing = refl
+      of_some : (x y : Weighted) → Some x ≡ Some y → x ≡ y
+      of_some x y h = cc
+
+      nothing : Alike (total []) 0
+      nothing = refl
   weighted_none hyps ok (p ∷ ps) w h =
       let b = bind_some (slice_get hyps p.0) _ _ h in
       let s = bind_some (sides b.0) _ _ b.2 in
@@ -305,18 +306,19 @@ module _ (a : Assignment) where
       ∙ alike_add _ (p.1 * 0) _ 0 (total-times p.1 d ∙ alike_times p.1 _ 0 (difference_none s.0.left s.0.right equal)) (weighted_none hyps ok ps r.0 r.1)
       ∙ (let z : p.1 * 0 + 0 ≡ 0 = omega arith in ap (λ n. n % T) z)
     where
-    of_some : (x y : Weighted) → Some x ≡ Some y → x ≡ y
-    of_some x y h = cc
+      of_some : (x y : Weighted) → Some x ≡ Some y → x ≡ y
+      of_some x y h = cc
 
   pub ring_sound : (hyps : List Tm) (goal : Tm) (ps : List Pair) → ring_closes hyps goal ps ≡ true → AllByRecursion (Holds a) hyps → Holds a goal
   ring_sound hyps goal ps h ok = by_sides (sides goal) refl h
     where
-    by_weighted : (g : Sides) (o : Option Weighted) → weighted hyps ps ≡ o → closes_with g o ≡ true → Alike (total (difference g.left g.right)) 0
-    by_weighted g None e h = absurd (false≢true h)
-    by_weighted g (Some w) e h =
-        let p = and_parts _ (balanced (difference g.left g.right) w.occurrences_) h in
-        total-agrees (length (difference g.left g.right) + length w.occurrences_) (difference g.left g.right) w.occurrences_ (omega arith) (agrees-balanced _ _ p.1)
-        ∙ weighted_none hyps ok ps w e
-    by_sides : (o : Option Sides) → sides goal ≡ o → closes_sides hyps ps o ≡ true → Holds a goal
-    by_sides None e h = absurd (false≢true h)
-    by_sides (Some g) e h = sides_hold goal g e (by_weighted g (weighted hyps ps) refl h)
+      by_weighted : (g : Sides) (o : Option Weighted) → weighted hyps ps ≡ o → closes_with g o ≡ true → Alike (total (difference g.left g.right)) 0
+      by_weighted g None e h = absurd (false≢true h)
+      by_weighted g (Some w) e h =
+          let p = and_parts _ (balanced (difference g.left g.right) w.occurrences_) h in
+          total-agrees (length (difference g.left g.right) + length w.occurrences_) (difference g.left g.right) w.occurrences_ (omega arith) (agrees-balanced _ _ p.1)
+          ∙ weighted_none hyps ok ps w e
+
+      by_sides : (o : Option Sides) → sides goal ≡ o → closes_sides hyps ps o ≡ true → Holds a goal
+      by_sides None e h = absurd (false≢true h)
+      by_sides (Some g) e h = sides_hold goal g e (by_weighted g (weighted hyps ps) refl h)

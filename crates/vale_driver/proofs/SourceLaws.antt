@@ -25,12 +25,13 @@ statement_is r bytes rest z h =
     let first : n.0.0 ≡ z = ap (λ (x : ℤ × List ℕ). x.0) pair in
     let second : d.0 ≡ rest = ap (λ (x : ℤ × List ℕ). x.1) pair in
     let number = signed_is c.0 n.0.1 n.0.0 n.1 in
-    let text = strip_is (codes "Add64(") bytes a.0 a.1 ∙ ap (λ x. codes "Add64(" ++ x) (strip_is (reg_name r) a.0 b.0 b.1 ∙ ap (λ x. reg_name r ++ x) (strip_is (codes ", ") b.0 c.0 c.1 ∙ ap (λ x. codes ", " ++ x) (number.0 ∙ ap (λ x. signed_decimal n.0.0 ++ x) (strip_is (codes "); ") n.0.1 d.0 d.1)))) in
-    ( text ∙ ap (λ x. statement_text r x d.0) first ∙ ap (statement_text r z) second
-    , subst Fits32 first number.1 )
+    let text = strip_is (codes "Add64(") bytes a.0 a.1 ∙ ap (λ x. codes "Add64(" ++ x) (strip_is (reg_name r) a.0 b.0 b.1 ∙ ap (λ x. reg_name r ++ x) (strip_is (codes ", ") b.0 c.0 c.1 ∙ ap (λ x. codes ", " ++ x) (number.0 ∙ ap (λ x. signed_decimal n.0.0 ++ x) (strip_is (codes "); ") n.0.1 d.0 d.1)))) in (
+      text ∙ ap (λ x. statement_text r x d.0) first ∙ ap (statement_text r z) second,
+      subst Fits32 first number.1,
+    )
   where
-  of_some : (x y : ℤ × List ℕ) → Some x ≡ Some y → x ≡ y
-  of_some x y h = cc
+    of_some : (x y : ℤ × List ℕ) → Some x ≡ Some y → x ≡ y
+    of_some x y h = cc
 
 statement_takes : (r : Reg) (z : ℤ) (rest : List ℕ) → Fits32 z → statement_at r (statement_text r z rest) ≡ Some (z, rest)
 unfolding statement_at
@@ -51,10 +52,10 @@ one_more : (z : ℤ) (o : Option (List ℤ × List ℕ)) (zs : List ℤ) (rest :
 one_more z None zs rest h = absurd cc
 one_more z (Some x) zs rest h =
     let pair : ◌≡◌ {A = List ℤ × List ℕ} (z ∷ x.0, x.1) (zs, rest) = of_some _ _ h in
-    ( x.0, ap (λ t. Some (x.0, t)) (ap (λ (p : List ℤ × List ℕ). p.1) pair), sym (ap (λ (p : List ℤ × List ℕ). p.0) pair) )
+    (x.0, ap (λ t. Some (x.0, t)) (ap (λ (p : List ℤ × List ℕ). p.1) pair), sym (ap (λ (p : List ℤ × List ℕ). p.0) pair))
   where
-  of_some : (x y : List ℤ × List ℕ) → Some x ≡ Some y → x ≡ y
-  of_some x y h = cc
+    of_some : (x y : List ℤ × List ℕ) → Some x ≡ Some y → x ≡ y
+    of_some x y h = cc
 
 none_yet : (n : ℕ) (r : Reg) (bytes : List ℕ) (zs : List ℤ) (rest : List ℕ) → ◌≡◌ {A = Option (List ℤ × List ℕ)} (Some ([], bytes)) (Some (zs, rest)) → Stated n r bytes zs rest
 none_yet n r bytes zs rest h =
@@ -67,32 +68,32 @@ none_yet n r bytes zs rest h =
       few = subst (λ ys. length ys ≤ n) first (omega arith);
     }
   where
-  of_some : (x y : List ℤ × List ℕ) → Some x ≡ Some y → x ≡ y
-  of_some x y h = cc
+    of_some : (x y : List ℤ × List ℕ) → Some x ≡ Some y → x ≡ y
+    of_some x y h = cc
 
 statements_is : (n : ℕ) (r : Reg) (bytes : List ℕ) (zs : List ℤ) (rest : List ℕ) → statements_at n r bytes ≡ Some (zs, rest) → Stated n r bytes zs rest
 statements_is zero r bytes zs rest h = by_test (begins_tail bytes) refl
   where
-  by_test : (b : Bool) → begins_tail bytes ≡ b → Stated zero r bytes zs rest
-  by_test true e = none_yet zero r bytes zs rest (sym (at_tail zero r bytes e) ∙ h)
-  by_test false e = absurd (no (sym (at_limit r bytes e) ∙ h))
-    where
-    no : ◌≡◌ {A = Option (List ℤ × List ℕ)} None (Some (zs, rest)) → ⊥
-    no k = cc
+    by_test : (b : Bool) → begins_tail bytes ≡ b → Stated zero r bytes zs rest
+    by_test true e = none_yet zero r bytes zs rest (sym (at_tail zero r bytes e) ∙ h)
+    by_test false e = absurd (no (sym (at_limit r bytes e) ∙ h))
+      where
+        no : ◌≡◌ {A = Option (List ℤ × List ℕ)} None (Some (zs, rest)) → ⊥
+        no k = cc
 statements_is (suc n) r bytes zs rest h = by_test (begins_tail bytes) refl (λ bytes' zs' rest' k. statements_is n r bytes' zs' rest' k)
   where
-  by_test : (b : Bool) → begins_tail bytes ≡ b → ((bytes' : List ℕ) (zs' : List ℤ) (rest' : List ℕ) → statements_at n r bytes' ≡ Some (zs', rest') → Stated n r bytes' zs' rest') → Stated (suc n) r bytes zs rest
-  by_test true e again = none_yet (suc n) r bytes zs rest (sym (at_tail (suc n) r bytes e) ∙ h)
-  by_test false e again =
-    let s = bind_some (statement_at r bytes) _ _ (sym (at_statement n r bytes e) ∙ h) in
-    let m = one_more s.0.0 (statements_at n r s.0.1) zs rest s.2 in
-    let here = statement_is r bytes s.0.1 s.0.0 s.1 in
-    let there = again s.0.1 m.0 rest m.1 in
-    record {
-      text = here.0 ∙ ap (statement_text r s.0.0) there.text ∙ ap (λ ys. statements_text r ys rest) (sym m.2);
-      fits = subst (AllByRecursion FitsAmount) (sym m.2) (here.1, there.fits);
-      few = subst (λ ys. length ys ≤ suc n) (sym m.2) (omega (arith, there.few));
-    }
+    by_test : (b : Bool) → begins_tail bytes ≡ b → ((bytes' : List ℕ) (zs' : List ℤ) (rest' : List ℕ) → statements_at n r bytes' ≡ Some (zs', rest') → Stated n r bytes' zs' rest') → Stated (suc n) r bytes zs rest
+    by_test true e again = none_yet (suc n) r bytes zs rest (sym (at_tail (suc n) r bytes e) ∙ h)
+    by_test false e again =
+        let s = bind_some (statement_at r bytes) _ _ (sym (at_statement n r bytes e) ∙ h) in
+        let m = one_more s.0.0 (statements_at n r s.0.1) zs rest s.2 in
+        let here = statement_is r bytes s.0.1 s.0.0 s.1 in
+        let there = again s.0.1 m.0 rest m.1 in
+        record {
+          text = here.0 ∙ ap (statement_text r s.0.0) there.text ∙ ap (λ ys. statements_text r ys rest) (sym m.2);
+          fits = subst (AllByRecursion FitsAmount) (sym m.2) (here.1, there.fits);
+          few = subst (λ ys. length ys ≤ suc n) (sym m.2) (omega (arith, there.few));
+        }
 
 statements_takes : (n : ℕ) (r : Reg) (zs : List ℤ) (rest : List ℕ) → length zs ≤ n → AllByRecursion FitsAmount zs → begins_tail rest ≡ true → statements_at n r (statements_text r zs rest) ≡ Some (zs, rest)
 statements_takes n r [] rest le fits t = at_tail n r rest t
@@ -108,10 +109,11 @@ name_is bytes rest name h =
     let g = given_some _ _ _ h in
     let both = and_parts _ _ g.0 in
     let first = ap (λ (p : List ℕ × List ℕ). p.0) g.1 in
-    let second = ap (λ (p : List ℕ × List ℕ). p.1) g.1 in
-    ( span_whole is_name_byte bytes ∙ ap (λ x. x ++ (span is_name_byte bytes).1) first ∙ ap (λ x. name ++ x) second
-    , subst (λ n. is_name_text n ≡ true) first both.0
-    , subst (λ n. is_reserved_name n ≡ false) first (not_true _ both.1) )
+    let second = ap (λ (p : List ℕ × List ℕ). p.1) g.1 in (
+      span_whole is_name_byte bytes ∙ ap (λ x. x ++ (span is_name_byte bytes).1) first ∙ ap (λ x. name ++ x) second,
+      subst (λ n. is_name_text n ≡ true) first both.0,
+      subst (λ n. is_reserved_name n ≡ false) first (not_true _ both.1),
+    )
 
 -- a name has name bytes alone
 name_bytes : (name : List ℕ) → is_name_text name ≡ true → list_all is_name_byte name ≡ true
@@ -128,9 +130,10 @@ unfolding export_at
 export_is bytes rest name h =
     let g = given_some _ _ _ h in
     let first = ap (λ (p : List ℕ × List ℕ). p.0) g.1 in
-    let second = ap (λ (p : List ℕ × List ℕ). p.1) g.1 in
-    ( span_whole is_name_byte bytes ∙ ap (λ x. x ++ (span is_name_byte bytes).1) first ∙ ap (λ x. name ++ x) second
-    , subst (λ n. is_export_text n ≡ true) first g.0 )
+    let second = ap (λ (p : List ℕ × List ℕ). p.1) g.1 in (
+      span_whole is_name_byte bytes ∙ ap (λ x. x ++ (span is_name_byte bytes).1) first ∙ ap (λ x. name ++ x) second,
+      subst (λ n. is_export_text n ≡ true) first g.0,
+    )
 
 export_bytes : (name : List ℕ) → is_export_text name ≡ true → list_all is_name_byte name ≡ true
 unfolding is_export_text
@@ -171,9 +174,9 @@ again_takes r rest =
     let r2 = codes " == old(" ++ r3 in
     let r1 = reg_name r ++ r2 in
     ap (λ o. o >>= ensures_at r)
-      ( takes (codes "; modifies ") (reg_name r ++ (codes ", flags; ensures " ++ r1)) _
-      ∙ takes (reg_name r) (codes ", flags; ensures " ++ r1) _
-      ∙ strip_takes (codes ", flags; ensures ") r1 )
+    (takes (codes "; modifies ") (reg_name r ++ (codes ", flags; ensures " ++ r1)) _
+    ∙ takes (reg_name r) (codes ", flags; ensures " ++ r1) _
+    ∙ strip_takes (codes ", flags; ensures ") r1)
     ∙ takes (reg_name r) r2 _ ∙ takes (codes " == old(") r3 _ ∙ takes (reg_name r) r4 _ ∙ strip_takes (codes ") + ") rest
 
 -- what a head that is read says
@@ -203,12 +206,12 @@ head_is bytes name r total rest h =
     let kn = number_is c.0 k.0.1 k.0.0 k.1 in
     let done : Headed bytes p.0.0 q.0.0 k.0.0 d.0 = record {
       text = strip_is (codes "procedure ") bytes a.0 a.1
-        ∙ ap (λ x. codes "procedure " ++ x) (pn.0
-        ∙ ap (λ x. p.0.0 ++ x) (strip_is (codes "() reads ") p.0.1 b.0 b.1
-        ∙ ap (λ x. codes "() reads " ++ x) (qr.0
-        ∙ ap (λ x. reg_name q.0.0 ++ x) (again_is q.0.0 q.0.1 c.0 c.1
-        ∙ ap (again_text q.0.0) (kn.0
-        ∙ ap (λ x. decimal k.0.0 ++ x) (strip_is (codes "w; { ") k.0.1 d.0 d.1))))));
+          ∙ ap (λ x. codes "procedure " ++ x) (pn.0
+          ∙ ap (λ x. p.0.0 ++ x) (strip_is (codes "() reads ") p.0.1 b.0 b.1
+          ∙ ap (λ x. codes "() reads " ++ x) (qr.0
+          ∙ ap (λ x. reg_name q.0.0 ++ x) (again_is q.0.0 q.0.1 c.0 c.1
+          ∙ ap (again_text q.0.0) (kn.0
+          ∙ ap (λ x. decimal k.0.0 ++ x) (strip_is (codes "w; { ") k.0.1 d.0 d.1))))));
       named = pn.1;
       unreserved = pn.2;
       register = qr.1;
@@ -216,8 +219,8 @@ head_is bytes name r total rest h =
     } in
     subst (λ (x : HeadOf). Headed bytes x.0.0 x.0.1 x.0.2 x.1) e done
   where
-  of_some : (x y : HeadOf) → Some x ≡ Some y → x ≡ y
-  of_some x y h = cc
+    of_some : (x y : HeadOf) → Some x ≡ Some y → x ≡ y
+    of_some x y h = cc
 
 head_takes : (name : List ℕ) (r : Reg) (total : ℕ) (rest : List ℕ) → is_name_text name ≡ true → is_reserved_name name ≡ false → (reg_number r == 7) ≡ false → total < 2 ^ 64 → ◌≡◌ {A = Option HeadOf} (head_at (codes "procedure " ++ (name ++ (codes "() reads " ++ (reg_name r ++ again_text r (decimal total ++ (codes "w; { " ++ rest))))))) (Some ((name, r, total), rest))
 unfolding head_at
@@ -257,16 +260,17 @@ tail_is name bytes export h =
     let d = bind_some (strip (codes "();") c.0) _ _ c.2 in
     let g = given_some _ _ _ d.2 in
     let e = ends_is d.0 g.0 in
-    let xn = export_is a.0 x.0.1 x.0.0 x.1 in
-    ( e.0
-    , strip_is (codes "} export ") bytes a.0 a.1
-      ∙ ap (λ y. codes "} export " ++ y) (xn.0
-      ∙ ap (λ y. x.0.0 ++ y) (strip_is (codes " = ") x.0.1 b.0 b.1
-      ∙ ap (λ y. codes " = " ++ y) (strip_is name b.0 c.0 c.1
-      ∙ ap (λ y. name ++ y) (strip_is (codes "();") c.0 d.0 d.1
-      ∙ ap (λ y. codes "();" ++ y) e.1)))
-      ∙ ap (λ z. z ++ (codes " = " ++ (name ++ (codes "();" ++ last e.0)))) g.1)
-    , subst (λ n. is_export_text n ≡ true) g.1 xn.1 )
+    let xn = export_is a.0 x.0.1 x.0.0 x.1 in (
+      e.0,
+      strip_is (codes "} export ") bytes a.0 a.1
+          ∙ ap (λ y. codes "} export " ++ y) (xn.0
+          ∙ ap (λ y. x.0.0 ++ y) (strip_is (codes " = ") x.0.1 b.0 b.1
+          ∙ ap (λ y. codes " = " ++ y) (strip_is name b.0 c.0 c.1
+          ∙ ap (λ y. name ++ y) (strip_is (codes "();") c.0 d.0 d.1
+          ∙ ap (λ y. codes "();" ++ y) e.1)))
+          ∙ ap (λ z. z ++ (codes " = " ++ (name ++ (codes "();" ++ last e.0)))) g.1),
+      subst (λ n. is_export_text n ≡ true) g.1 xn.1,
+    )
 
 tail_takes : (name export : List ℕ) (b : Bool) → is_export_text export ≡ true → tail_at name (codes "} export " ++ (export ++ (codes " = " ++ (name ++ (codes "();" ++ last b))))) ≡ Some export
 unfolding tail_at
@@ -304,8 +308,8 @@ source_is bytes p h =
       export = tail.2;
     } in
     let text : bytes ≡ spelling read (last tail.0) =
-      head.text ∙ ap (λ y. codes "procedure " ++ (a.0.0.0 ++ (codes "() reads " ++ (reg_name a.0.0.1 ++ again_text a.0.0.1 (decimal a.0.0.2 ++ (codes "w; { " ++ y))))))
-        (stated.text ∙ ap (statements_text a.0.0.1 s.0.0) tail.1) in
+    head.text ∙ ap (λ y. codes "procedure " ++ (a.0.0.0 ++ (codes "() reads " ++ (reg_name a.0.0.1 ++ again_text a.0.0.1 (decimal a.0.0.2 ++ (codes "w; { " ++ y))))))
+    (stated.text ∙ ap (statements_text a.0.0.1 s.0.0) tail.1) in
     subst (λ q. IsStraight q × ((b : Bool) × (bytes ≡ spelling q (last b)))) g.1 (fits, (tail.0, text))
 
 -- what is spelled so is read
@@ -315,9 +319,9 @@ source_takes p b ok =
     let tail = tail_text p (last b) in
     let body = statements_text p.register p.amounts tail in
     ap (λ o. o >>= λ h. statements_at statement_limit h.0.1 h.1 >>= λ s. tail_at h.0.0 s.1 >>= λ x. given (nat_le 1 (length s.0)) record { name = h.0.0; register = h.0.1; amounts = s.0; total = h.0.2; export = x })
-      (head_takes p.name p.register p.total body ok.name ok.unreserved ok.register ok.total)
+    (head_takes p.name p.register p.total body ok.name ok.unreserved ok.register ok.total)
     ∙ ap (λ o. o >>= λ s. tail_at p.name s.1 >>= λ x. given (nat_le 1 (length s.0)) record { name = p.name; register = p.register; amounts = s.0; total = p.total; export = x })
-      (statements_takes statement_limit p.register p.amounts tail ok.few ok.amounts refl)
+    (statements_takes statement_limit p.register p.amounts tail ok.few ok.amounts refl)
     ∙ ap (λ o. o >>= λ x. given (nat_le 1 (length p.amounts)) record { name = p.name; register = p.register; amounts = p.amounts; total = p.total; export = x })
-      (tail_takes p.name p.export b ok.export)
+    (tail_takes p.name p.export b ok.export)
     ∙ ap (λ t. given t p) (le-leb 1 (length p.amounts) ok.some)

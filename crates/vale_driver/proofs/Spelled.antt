@@ -54,9 +54,9 @@ signed_digits (d ∷ ds) h =
     let p = and_parts (is_digit_byte d) (list_all is_digit_byte ds) h in
     and_from _ _ (either (eqb d 45) p.0) (signed_digits ds p.1)
   where
-  either : (b : Bool) → is_digit_byte d ≡ true → (b || is_digit_byte d) ≡ true
-  either true h = refl
-  either false h = h
+    either : (b : Bool) → is_digit_byte d ≡ true → (b || is_digit_byte d) ≡ true
+    either true h = refl
+    either false h = h
 
 signed_bytes : (z : ℤ) → IsShort z → list_all is_signed_byte (signed_decimal z) ≡ true
 unfolding is_signed_byte

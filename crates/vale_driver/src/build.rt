@@ -24,6 +24,7 @@ use x64_syntax::Text;
 
 /// The most bytes of a source and of a certificate.
 const SOURCE_LIMIT: usize = 1048576;
+
 const CERTIFICATE_LIMIT: usize = 67108864;
 
 /// Why a build ends without a text.

@@ -29,11 +29,7 @@ pub(crate) fn read_certificate(
 }
 
 #[tactic(auto, unfolding(crate::specs::Certificate::certificate_at))]
-fn pairs_of(
-    alloc: Global,
-    name: &[u8],
-    bytes: &[u8],
-) -> Result<Vec<Pair>, ReadFault>
+fn pairs_of(alloc: Global, name: &[u8], bytes: &[u8]) -> Result<Vec<Pair>, ReadFault>
     ensures { Reads (λ v. v.items) (certificate_at name.now bytes.now) result }
 {
     let Some(rest) = opening(name, bytes) else {

@@ -21,6 +21,7 @@ use x64_syntax::{FlagName, Place, Reg, Text};
 
 /// 2^64, from which a sum of words carries, and 2^63, from which a word is negative.
 const CARRIES_FROM: i128 = 1 << 64;
+
 const NEGATIVE_FROM: i128 = 1 << 63;
 
 // The name of a place's value at a version, as `rax.0`.

@@ -84,7 +84,12 @@ fn ins_line(alloc: Global, ins: &Ins) -> Result<Text, NoMemory>
 fn constant_line(alloc: Global, n: i64, d: Reg) -> Result<Text, NoMemory>
     ensures { IfOk result (λ t. (rest : List ℕ) → t ++ rest ≡ codes "\tmovabsq $" ++ (decimal (word_of n) ++ (codes ", %" ++ (reg_name d ++ (codes "\n" ++ rest))))) }
 {
-    line(alloc, b"\tmovabsq $", Buffer::new().format(n.cast_unsigned()).as_bytes(), d)
+    line(
+        alloc,
+        b"\tmovabsq $",
+        Buffer::new().format(n.cast_unsigned()).as_bytes(),
+        d,
+    )
 }
 
 // A line of a mnemonic, a source, and a register as the destination.

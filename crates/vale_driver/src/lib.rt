@@ -10,7 +10,6 @@ mod program;
 mod reading;
 mod report;
 mod ring;
-
 mod source;
 mod status;
 mod straight;

@@ -126,11 +126,7 @@ fn coefficient_in(atom: Option<&Term>, all: &[Occurring]) -> u64
 }
 
 // Whether the monomials of `of` have the same coefficient on both sides.
-fn agree<'a>(
-    of: &[Occurring<'a>],
-    left: &[Occurring<'a>],
-    right: &[Occurring<'a>],
-) -> bool
+fn agree<'a>(of: &[Occurring<'a>], left: &[Occurring<'a>], right: &[Occurring<'a>]) -> bool
     ensures { result ≡ list_all (λ o. coefficient o.atom (seen_all left.now) == coefficient o.atom (seen_all right.now)) (seen_all of.now) }
 {
     for o in of {

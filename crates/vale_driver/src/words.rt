@@ -18,7 +18,12 @@ pub(crate) fn read_words(words: &[String]) -> Option<BuildWords<'_>>
 {
     match words {
         [command, syntax, gas, option, cert, file] => {
-            if !is_build(command.as_str(), syntax.as_str(), gas.as_str(), option.as_str()) {
+            if !is_build(
+                command.as_str(),
+                syntax.as_str(),
+                gas.as_str(),
+                option.as_str(),
+            ) {
                 return None;
             }
             files(cert.as_str(), file.as_str())

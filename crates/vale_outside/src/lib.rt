@@ -13,7 +13,6 @@ mod real;
 mod sink;
 mod store;
 
-
 pub use mem_sink::MemSink;
 pub use mem_store::MemStore;
 pub use no_fault::{NoFaultSink, NoFaultStore};

@@ -63,12 +63,6 @@ impl Store for NoFaultStore {
 #[derive(Clone, Copy, Debug, Default)]
 pub struct NoFaultSink;
 
-impl NoFaultSink {
-    pub fn new() -> Self {
-        NoFaultSink
-    }
-}
-
 impl Sink for NoFaultSink {
     ghost told = { λ _. None };
 
@@ -77,6 +71,27 @@ impl Sink for NoFaultSink {
     fn put(&mut self, _bytes: &[u8]) -> Result<(), PutFault>
         ensures { IsOk result }
     {
+        Ok(())
+    }
+}
+
+#[cfg(test)]
+mod tests {
+    use super::*;
+    use std::test::Fail;
+
+    #[test]
+    fn fetches_what_is_held(rt: HostRuntime) -> Result<(), Fail> {
+        let alloc = rt.alloc();
+        let mut store = NoFaultStore::new(alloc);
+        store.hold(
+            String::from_str(alloc, "a.cert")?,
+            Vec::from_slice(alloc, b"[]")?,
+        )?;
+        let mut bytes = Vec::new(alloc);
+        assert_eq!(rt; store.fetch("a.cert", 2, &mut bytes), Ok(()));
+        assert_eq!(rt; bytes.as_slice(), b"[]".as_slice());
+        assert_eq!(rt; NoFaultSink.put(b"ret"), Ok(()));
         Ok(())
     }
 }

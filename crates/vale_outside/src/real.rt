@@ -105,3 +105,40 @@ impl<W: Write + Drop> Sink for StreamSink<W> {
         }
     }
 }
+
+#[cfg(test)]
+mod tests {
+    use super::*;
+    use std::fs;
+    use std::test::Fail;
+
+    #[test]
+    fn fetches_the_bytes_of_a_file(rt: HostRuntime) -> Result<(), Fail> {
+        let name = "/tmp/vale_outside_fetches_the_bytes_of_a_file";
+        fs::write(&rt, name, b"Add64(rax, 1);\n")?;
+        let mut store = FileStore::new(&rt);
+        let mut whole = Vec::new(rt.alloc());
+        let fetched = store.fetch(name, 15, &mut whole);
+        let mut front = Vec::new(rt.alloc());
+        let too_long = store.fetch(name, 14, &mut front);
+        fs::remove_file(&rt, name)?;
+        let mut gone = Vec::new(rt.alloc());
+        let failed = store.fetch(name, 15, &mut gone);
+        assert_eq!(rt; fetched, Ok(()));
+        assert_eq!(rt; whole.as_slice(), b"Add64(rax, 1);\n".as_slice());
+        assert_eq!(rt; too_long, Err(FetchFault::TooLong));
+        assert_eq!(rt; front.as_slice(), b"Add64(rax, 1);".as_slice());
+        assert_eq!(rt; failed, Err(FetchFault::Failed));
+        assert_eq!(rt; store.faults, 1);
+        Ok(())
+    }
+
+    #[test]
+    fn puts_the_bytes_into_a_stream(rt: HostRuntime) -> Result<(), Fail> {
+        let mut sink = StreamSink::new(Vec::new(rt.alloc()));
+        assert_eq!(rt; sink.put(b"inc2:\n"), Ok(()));
+        assert_eq!(rt; sink.put(b"\tret\n"), Ok(()));
+        assert_eq!(rt; sink.stream.as_slice(), b"inc2:\n\tret\n".as_slice());
+        Ok(())
+    }
+}

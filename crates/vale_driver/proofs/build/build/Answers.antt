@@ -23,7 +23,7 @@ returns-then-not-branch-clause-stops g c =
     let proves = rw c.as_bytes.ensures at c.in_ok-steps.ensures.found in
     let closes = ap (ring_closes (condition_hyps c.in_ok-source.source) (condition_goal c.in_ok-source.source)) (sym c.deref.ensures.value) ∙ sym c.in_ok-closes.ensures ∙ c.if-not-branch.true in
     step_stops _ _ c.in_ok-source.source c.in_ok-steps.steps.items _ _ c.in_ok-source.ensures.found (c.in_ok-source.ensures.same_files c.args.cert.now) proves closes
-      (c.in_ok-refusal.ensures ∙ ap (step_refusal c.args.cert.now) c.as_bytes-then-not-branch.ensures)
+    (c.in_ok-refusal.ensures ∙ ap (step_refusal c.args.cert.now) c.as_bytes-then-not-branch.ensures)
 
 pub returns-clause-built : goal.returns-clause-built
 returns-clause-built g c =

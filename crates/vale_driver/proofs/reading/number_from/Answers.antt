@@ -14,7 +14,7 @@ returns-in_default-parse c = number_none c.args.digits.now (λ n fits e. c.in_de
 pub returns-then-eq : goal.returns-then-eq
 returns-then-eq c =
     number_some c.args.digits.now c.in-Ok-parse.n (search rules)
-      (sym c.format.ensures.text ∙ sym c.as_bytes.ensures.value ∙ (bytes_eq-Decides c.as_bytes.result.now c.args.digits.now).0 (sym c.eq.ensures ∙ c.if-eq.true))
+    (sym c.format.ensures.text ∙ sym c.as_bytes.ensures.value ∙ (bytes_eq-Decides c.as_bytes.result.now c.args.digits.now).0 (sym c.eq.ensures ∙ c.if-eq.true))
 
 pub returns-else-eq : goal.returns-else-eq
 returns-else-eq c = number_none c.args.digits.now (λ n fits e.

@@ -22,7 +22,6 @@ returns-in_err-put-clause-front g c =
 pub loop-line-preserved : goal.loop-line-preserved
 loop-line-preserved g c =
     let put = rw c.as_bytes.ensures at c.in_ok-put.ensures.ok in
-    
     record {
       appends = subst (Appends _ _) (sym (joined_take _ _ c.line-item.result c.loop-line-test.true c.line-item.is)) (appends_next _ _ _ _ _ c.loop-line.invariant.appends put);
       count = omega arith;

@@ -7,5 +7,5 @@ use Rattle.vale_driver.proofs.report.write_lines.Given as goal
 abbrev pub invariant-loop-line : goal.invariant-loop-line
 invariant-loop-line g l = record {
   appends : Appends (g.O.Sink.told l.fn.out) (g.O.Sink.told l.out) (joined (take l.line-index l.lines));
-  count : g.O.Sink.faults l.fn.out ≤ g.O.Sink.faults l.out
+  count : g.O.Sink.faults l.fn.out ≤ g.O.Sink.faults l.out;
 }

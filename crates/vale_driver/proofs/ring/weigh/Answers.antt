@@ -19,6 +19,6 @@ loop-pair-preserved c =
     let factor = (get_or c.args.pairs.now c.loop-pair.pair-index (0, 0)).1 in
     let before = seen_all c.loop-pair.all.items in
     let pushed : seen_all c.push_times.new.into.items ≡ before ++ times factor (difference (tree c.in-Some.left.now) (tree c.in-Some.right.now)) =
-      c.in_ok-push_times.ensures ∙ ap (λ xs. before ++ times factor (seen_all xs)) c.deref.ensures.value ∙ ap (λ os. before ++ times factor os) c.in_ok-more.ensures in
+    c.in_ok-push_times.ensures ∙ ap (λ xs. before ++ times factor (seen_all xs)) c.deref.ensures.value ∙ ap (λ os. before ++ times factor os) c.in_ok-more.ensures in
     let sum : c.saturating_add-width.result ≡ c.loop-pair.width + (width (tree c.in-Some.left.now) + width (tree c.in-Some.right.now)) = omega arith in
     record { whole = rw (pushed, sum) more; narrow = omega arith }

@@ -9,5 +9,5 @@ use Rattle.vale_driver.proofs.ring.weigh.Given as goal
 abbrev pub invariant-loop-pair : goal.invariant-loop-pair
 invariant-loop-pair l = record {
   whole : in_front (seen_all l.all.items) l.width (weighted (trees l.hyps) (drop l.pair-index l.pairs)) ≡ weighted (trees l.hyps) l.pairs;
-  narrow : l.width ≤ width_limit
+  narrow : l.width ≤ width_limit;
 }
