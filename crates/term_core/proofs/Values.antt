@@ -1,6 +1,5 @@
 -- Laws of values and of comparisons of terms.
-use Rattle.std.proofs.Common.{◌≡◌, ℕ, ◌+◌, ◌<◌, ◌%◌, ◌^◌, ℤ, pos, Bool, true, false, List, refl, sym, ap, ◌∙◌, subst, arith, mod-eq_of_lt, ◌&&◌, cond, eqb}
-use Rattle.std.specs.Prelude.{bit_and, bit_xor}
+use Rattle.std.proofs.Common.{◌≡◌, ◌+◌, ◌<◌, ℤ, Bool, true, false, refl, ap, ◌∙◌, arith, mod-eq_of_lt, cond}
 use Rattle.std.specs.Ordering.{int_eq}
 use Rattle.std.specs.Cmp.{signed_Decides}
 use Rattle.std.specs.Str.{bytes_eq}
@@ -15,7 +14,7 @@ use Rattle.term_core.specs.declared.term.UnOp.TheVariants as un
 use Rattle.term_core.specs.declared.term.BinOp.{BinOp}
 use Rattle.term_core.specs.declared.term.BinOp.TheVariants as bin
 use Rattle.term_core.specs.Terms.{Tm, Name, Int, W64, Un, Bin, Ite, sort_eq, un_eq, bin_eq, tm_eq, sum_sort, bin_sort, tm_sort}
-use Rattle.term_core.specs.Value.{T, T128, Val, Whole, Truth, Word, Wide, whole, truth, word, wide, cast, val_eq, un_value, bin_value, Assignment, value}
+use Rattle.term_core.specs.Value.{T, T128, Val, Whole, Truth, Word, Wide, truth, word, wide, cast, val_eq, bin_value, Assignment, value}
 
 pub word-lt : (v : Val) → word v < T
 word-lt (Word n) = mod_below n T (omega arith)

@@ -115,8 +115,9 @@ mod tests {
             store.fetch("a.vale", 3, &mut nothing),
             Err(FetchFault::Failed)
         );
+        let mut missing = Vec::new(alloc);
         assert_eq!(rt;
-            store.fetch("b.vale", 3, &mut nothing),
+            store.fetch("b.vale", 3, &mut missing),
             Err(FetchFault::Failed)
         );
         Ok(())

@@ -7,7 +7,7 @@ use Rattle.std.proofs.lemmas.Nat.{mod_below}
 use Rattle.x64_syntax.specs.declared.places.Place.{Place}
 use Rattle.x64_syntax.specs.declared.places.Place.TheVariants.{Reg, Xmm, Flag}
 use Rattle.x64_syntax.specs.Places.{reg_number, xmm_number, flag_number, place_eq}
-use Rattle.x64_syntax.proofs.PlaceLemmas.{reg_number-lt, xmm_number-lt, flag_number-lt}
+use Rattle.x64_syntax.proofs.PlaceLemmas.{reg_number_lt, xmm_number_lt, flag_number_lt}
 use Rattle.term_core.specs.Value.{T, T128, Val, Whole, Word, Wide, Truth, whole, word, wide, cast}
 use Rattle.term_core.proofs.Values.{word-lt, wide-lt}
 use Rattle.x64_meaning.specs.declared.machine.Flag.{Flag as FlagValue}
@@ -22,13 +22,13 @@ Storable (Flag f) v = v ≡ Whole (pos (flag_number_of (flag_from (whole v))))
 
 pub read_written : (s : State) (p : Place) (v : Val) → IsState s → Storable p v → read (write s p v) p ≡ v
 read_written s (Reg r) v ok h =
-    let lt : reg_number r < length s.regs = omega (arith, ok.regs, reg_number-lt r) in
+    let lt : reg_number r < length s.regs = omega (arith, ok.regs, reg_number_lt r) in
     ap Word (get_or-set_same s.regs (reg_number r) (word v) 0 lt) ∙ sym h
 read_written s (Xmm x) v ok h =
-    let lt : xmm_number x < length s.xmms = omega (arith, ok.xmms, xmm_number-lt x) in
+    let lt : xmm_number x < length s.xmms = omega (arith, ok.xmms, xmm_number_lt x) in
     ap Wide (get_or-set_same s.xmms (xmm_number x) (wide v) 0 lt) ∙ sym h
 read_written s (Flag f) v ok h =
-    let lt : flag_number f < length s.flags = omega (arith, ok.flags, flag_number-lt f) in
+    let lt : flag_number f < length s.flags = omega (arith, ok.flags, flag_number_lt f) in
     ap (λ x. Whole (pos (flag_number_of x))) (get_or-set_same s.flags (flag_number f) (flag_from (whole v)) Undefined lt) ∙ sym h
 
 pub read_other : (s : State) (p q : Place) (v : Val) → place_eq p q ≡ false → read (write s q v) p ≡ read s p
@@ -55,7 +55,7 @@ set-lt xs i x bound within fits all k = elim (cases_eq k i) [
 pub write-IsState : (s : State) (p : Place) (v : Val) → IsState s → IsState (write s p v)
 write-IsState s (Reg r) v ok = record {
   regs = length-set s.regs _ _ ∙ ok.regs;
-  regs_fit = set-lt s.regs _ _ T (omega (arith, ok.regs, reg_number-lt r)) (word-lt v) ok.regs_fit;
+  regs_fit = set-lt s.regs _ _ T (omega (arith, ok.regs, reg_number_lt r)) (word-lt v) ok.regs_fit;
   xmms = ok.xmms;
   xmms_fit = ok.xmms_fit;
   flags = ok.flags;
@@ -67,7 +67,7 @@ write-IsState s (Xmm x) v ok = record {
   regs = ok.regs;
   regs_fit = ok.regs_fit;
   xmms = length-set s.xmms _ _ ∙ ok.xmms;
-  xmms_fit = set-lt s.xmms _ _ T128 (omega (arith, ok.xmms, xmm_number-lt x)) (wide-lt v) ok.xmms_fit;
+  xmms_fit = set-lt s.xmms _ _ T128 (omega (arith, ok.xmms, xmm_number_lt x)) (wide-lt v) ok.xmms_fit;
   flags = ok.flags;
   blocks_fit = ok.blocks_fit;
   bytes_fit = ok.bytes_fit;

@@ -1,5 +1,5 @@
 -- Places are told apart by their numbers.
-use Rattle.std.proofs.Common.{◌≡◌, ℕ, ◌<◌, Bool, true, false, refl, sym, ap, ◌∙◌, eqb, arith, lit<}
+use Rattle.std.proofs.Common.{◌≡◌, ◌<◌, true, refl, sym, ap, ◌∙◌, lit<}
 use Rattle.std.specs.Prelude.{slice_index_or}
 use Rattle.std.proofs.lemmas.Bool.{eqb-true, eq-eqb}
 use Rattle.x64_syntax.specs.declared.places.Reg.{Reg as GeneralReg}
@@ -33,23 +33,23 @@ reg_back R13 = refl
 reg_back R14 = refl
 reg_back R15 = refl
 
-pub reg_number-lt : (p : GeneralReg) → reg_number p < 16
-reg_number-lt Rax = lit< tt
-reg_number-lt Rbx = lit< tt
-reg_number-lt Rcx = lit< tt
-reg_number-lt Rdx = lit< tt
-reg_number-lt Rsi = lit< tt
-reg_number-lt Rdi = lit< tt
-reg_number-lt Rbp = lit< tt
-reg_number-lt Rsp = lit< tt
-reg_number-lt R8 = lit< tt
-reg_number-lt R9 = lit< tt
-reg_number-lt R10 = lit< tt
-reg_number-lt R11 = lit< tt
-reg_number-lt R12 = lit< tt
-reg_number-lt R13 = lit< tt
-reg_number-lt R14 = lit< tt
-reg_number-lt R15 = lit< tt
+pub reg_number_lt : (p : GeneralReg) → reg_number p < 16
+reg_number_lt Rax = lit< tt
+reg_number_lt Rbx = lit< tt
+reg_number_lt Rcx = lit< tt
+reg_number_lt Rdx = lit< tt
+reg_number_lt Rsi = lit< tt
+reg_number_lt Rdi = lit< tt
+reg_number_lt Rbp = lit< tt
+reg_number_lt Rsp = lit< tt
+reg_number_lt R8 = lit< tt
+reg_number_lt R9 = lit< tt
+reg_number_lt R10 = lit< tt
+reg_number_lt R11 = lit< tt
+reg_number_lt R12 = lit< tt
+reg_number_lt R13 = lit< tt
+reg_number_lt R14 = lit< tt
+reg_number_lt R15 = lit< tt
 
 pub reg_eq_is : (a b : GeneralReg) → reg_eq a b ≡ true → a ≡ b
 reg_eq_is a b h = sym (reg_back a) ∙ ap (λ n. slice_index_or ALL_REGS n Rax) (eqb-true _ _ h) ∙ reg_back b
@@ -75,23 +75,23 @@ xmm_back Xmm13 = refl
 xmm_back Xmm14 = refl
 xmm_back Xmm15 = refl
 
-pub xmm_number-lt : (p : XmmReg) → xmm_number p < 16
-xmm_number-lt Xmm0 = lit< tt
-xmm_number-lt Xmm1 = lit< tt
-xmm_number-lt Xmm2 = lit< tt
-xmm_number-lt Xmm3 = lit< tt
-xmm_number-lt Xmm4 = lit< tt
-xmm_number-lt Xmm5 = lit< tt
-xmm_number-lt Xmm6 = lit< tt
-xmm_number-lt Xmm7 = lit< tt
-xmm_number-lt Xmm8 = lit< tt
-xmm_number-lt Xmm9 = lit< tt
-xmm_number-lt Xmm10 = lit< tt
-xmm_number-lt Xmm11 = lit< tt
-xmm_number-lt Xmm12 = lit< tt
-xmm_number-lt Xmm13 = lit< tt
-xmm_number-lt Xmm14 = lit< tt
-xmm_number-lt Xmm15 = lit< tt
+pub xmm_number_lt : (p : XmmReg) → xmm_number p < 16
+xmm_number_lt Xmm0 = lit< tt
+xmm_number_lt Xmm1 = lit< tt
+xmm_number_lt Xmm2 = lit< tt
+xmm_number_lt Xmm3 = lit< tt
+xmm_number_lt Xmm4 = lit< tt
+xmm_number_lt Xmm5 = lit< tt
+xmm_number_lt Xmm6 = lit< tt
+xmm_number_lt Xmm7 = lit< tt
+xmm_number_lt Xmm8 = lit< tt
+xmm_number_lt Xmm9 = lit< tt
+xmm_number_lt Xmm10 = lit< tt
+xmm_number_lt Xmm11 = lit< tt
+xmm_number_lt Xmm12 = lit< tt
+xmm_number_lt Xmm13 = lit< tt
+xmm_number_lt Xmm14 = lit< tt
+xmm_number_lt Xmm15 = lit< tt
 
 pub xmm_eq_is : (a b : XmmReg) → xmm_eq a b ≡ true → a ≡ b
 xmm_eq_is a b h = sym (xmm_back a) ∙ ap (λ n. slice_index_or ALL_XMMS n Xmm0) (eqb-true _ _ h) ∙ xmm_back b
@@ -105,11 +105,11 @@ flag_back Zf = refl
 flag_back Sf = refl
 flag_back Of = refl
 
-pub flag_number-lt : (p : FlagName) → flag_number p < 4
-flag_number-lt Cf = lit< tt
-flag_number-lt Zf = lit< tt
-flag_number-lt Sf = lit< tt
-flag_number-lt Of = lit< tt
+pub flag_number_lt : (p : FlagName) → flag_number p < 4
+flag_number_lt Cf = lit< tt
+flag_number_lt Zf = lit< tt
+flag_number_lt Sf = lit< tt
+flag_number_lt Of = lit< tt
 
 pub flag_eq_is : (a b : FlagName) → flag_eq a b ≡ true → a ≡ b
 flag_eq_is a b h = sym (flag_back a) ∙ ap (λ n. slice_index_or ALL_FLAGS n Cf) (eqb-true _ _ h) ∙ flag_back b

@@ -62,3 +62,17 @@ impl Eq for Text {
 
     ghost laws = { Prim.search (comparing, rules) };
 }
+
+#[cfg(test)]
+mod tests {
+    use super::*;
+    use std::test::Fail;
+
+    #[test]
+    fn keeps_its_bytes(rt: HostRuntime) -> Result<(), Fail> {
+        let text = Text::from_slice(rt.alloc(), b"rax")?;
+        assert_eq!(rt; text.as_bytes(), b"rax".as_slice());
+        assert!(rt; text == Text::from_vec(Vec::from_slice(rt.alloc(), b"rax")?));
+        Ok(())
+    }
+}

@@ -45,92 +45,21 @@ pub const KEYWORDS: [&str; 28] = [
 
 /// The sorts, the kinds of operands and the calling conventions.
 pub const KINDS: [&str; 10] = [
-    "int",
-    "bool",
-    "w64",
-    "w128",
-    "arr",
-    "reg",
-    "opr",
-    "xmm",
-    "sysv",
-    "win",
+    "int", "bool", "w64", "w128", "arr", "reg", "opr", "xmm", "sysv", "win",
 ];
 
 /// The registers and flags.
 pub const PLACES: [&str; 37] = [
-    "rax",
-    "rbx",
-    "rcx",
-    "rdx",
-    "rsi",
-    "rdi",
-    "rbp",
-    "rsp",
-    "r8",
-    "r9",
-    "r10",
-    "r11",
-    "r12",
-    "r13",
-    "r14",
-    "r15",
-    "xmm0",
-    "xmm1",
-    "xmm2",
-    "xmm3",
-    "xmm4",
-    "xmm5",
-    "xmm6",
-    "xmm7",
-    "xmm8",
-    "xmm9",
-    "xmm10",
-    "xmm11",
-    "xmm12",
-    "xmm13",
-    "xmm14",
-    "xmm15",
-    "cf",
-    "zf",
-    "sf",
-    "of",
-    "flags",
+    "rax", "rbx", "rcx", "rdx", "rsi", "rdi", "rbp", "rsp", "r8", "r9", "r10", "r11", "r12", "r13",
+    "r14", "r15", "xmm0", "xmm1", "xmm2", "xmm3", "xmm4", "xmm5", "xmm6", "xmm7", "xmm8", "xmm9",
+    "xmm10", "xmm11", "xmm12", "xmm13", "xmm14", "xmm15", "cf", "zf", "sf", "of", "flags",
 ];
 
 /// The operators that are written as calls.
 pub const BUILT_IN: [&str; 31] = [
-    "div",
-    "mod",
-    "int",
-    "word",
-    "ite",
-    "and",
-    "or",
-    "xor",
-    "not",
-    "shl",
-    "shr",
-    "rol",
-    "ror",
-    "mulhi",
-    "pair",
-    "hi",
-    "lo",
-    "paddd",
-    "pshufb",
-    "pshufd",
-    "pslld",
-    "psrld",
-    "pslldq",
-    "psrldq",
-    "len",
-    "put",
-    "forall",
-    "old",
-    "defined",
-    "slot",
-    "base",
+    "div", "mod", "int", "word", "ite", "and", "or", "xor", "not", "shl", "shr", "rol", "ror",
+    "mulhi", "pair", "hi", "lo", "paddd", "pshufb", "pshufd", "pslld", "psrld", "pslldq", "psrldq",
+    "len", "put", "forall", "old", "defined", "slot", "base",
 ];
 
 /// The instructions of the source language.
@@ -267,75 +196,12 @@ pub const MNEMONICS: [&str; 77] = [
 
 /// Further words that an assembler may read otherwise.
 pub const ASSEMBLER_WORDS: [&str; 69] = [
-    "al",
-    "ah",
-    "ax",
-    "eax",
-    "bl",
-    "bh",
-    "bx",
-    "ebx",
-    "cl",
-    "ch",
-    "cx",
-    "ecx",
-    "dl",
-    "dh",
-    "dx",
-    "edx",
-    "si",
-    "esi",
-    "di",
-    "edi",
-    "bp",
-    "ebp",
-    "sp",
-    "esp",
-    "byte",
-    "word",
-    "dword",
-    "qword",
-    "xmmword",
-    "ptr",
-    "offset",
-    "proc",
-    "endp",
-    "end",
-    "public",
-    "extern",
-    "include",
-    "segment",
-    "ends",
-    "assume",
-    "macro",
-    "endm",
-    "equ",
-    "dup",
-    "db",
-    "dw",
-    "dd",
-    "dq",
-    "mod",
-    "eq",
-    "ne",
-    "lt",
-    "le",
-    "gt",
-    "ge",
-    "high",
-    "low",
-    "type",
-    "this",
-    "length",
-    "size",
-    "name",
-    "title",
-    "page",
-    "org",
-    "while",
-    "for",
-    "repeat",
-    "option",
+    "al", "ah", "ax", "eax", "bl", "bh", "bx", "ebx", "cl", "ch", "cx", "ecx", "dl", "dh", "dx",
+    "edx", "si", "esi", "di", "edi", "bp", "ebp", "sp", "esp", "byte", "word", "dword", "qword",
+    "xmmword", "ptr", "offset", "proc", "endp", "end", "public", "extern", "include", "segment",
+    "ends", "assume", "macro", "endm", "equ", "dup", "db", "dw", "dd", "dq", "mod", "eq", "ne",
+    "lt", "le", "gt", "ge", "high", "low", "type", "this", "length", "size", "name", "title",
+    "page", "org", "while", "for", "repeat", "option",
 ];
 
 /// The longest export name.
@@ -488,7 +354,9 @@ fn is_numbered(case: Case, prefix: &[u8], word: &[u8]) -> bool
 fn is_among(words: &[&str], case: Case, name: &[u8]) -> bool
     ensures { result ≡ list_any (λ word. same_text case word.now name.now) words.now }
 {
-    words.iter().any(|word| is_same(case, word.as_bytes(), name))
+    words
+        .iter()
+        .any(|word| is_same(case, word.as_bytes(), name))
 }
 
 fn is_same(case: Case, a: &[u8], b: &[u8]) -> bool
@@ -497,5 +365,30 @@ fn is_same(case: Case, a: &[u8], b: &[u8]) -> bool
     match case {
         Case::Exact => a == b,
         Case::Ignored => a.eq_ignore_ascii_case(b),
+    }
+}
+
+#[cfg(test)]
+mod tests {
+    use super::*;
+
+    #[test]
+    fn tells_names_from_words_that_are_taken(rt: HostRuntime) {
+        for name in ["inc2", "sum", "x", "slotted", "_"] {
+            assert!(rt;
+                is_name(name.as_bytes()) && !is_reserved(name.as_bytes()),
+                "at {name}"
+            );
+        }
+        for name in ["procedure", "rax", "xmm15", "cf", "Add64", "slot3", "old"] {
+            assert!(rt; is_reserved(name.as_bytes()), "at {name}");
+        }
+        for name in ["", "2x", "a-b", "a.b"] {
+            assert!(rt; !is_name(name.as_bytes()), "at {name}");
+        }
+        for name in ["add", "RAX", "ret", "L1", ""] {
+            assert!(rt; !is_export_name(name.as_bytes()), "at {name}");
+        }
+        assert!(rt; is_export_name(b"gcm_sha_1"));
     }
 }

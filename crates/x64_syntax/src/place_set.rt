@@ -1,0 +1,65 @@
+// Sets of places.
+
+ghost use Rattle.std.specs.Prelude.{◌≡◌, ◌<◌, ◌||◌, false};
+ghost use Rattle.x64_syntax.specs.Places.{place_eq};
+ghost use Rattle.x64_syntax.specs.PlaceSets.{has_bit, in_set};
+
+use crate::places::Place;
+
+/// A set of registers, xmm registers and flags. Bit k stands for the one of number k.
+#[derive(Clone, Copy, Debug, PartialEq, Eq)]
+pub struct PlaceSet {
+    pub regs: u16,
+    pub xmms: u16,
+    pub flags: u8,
+}
+
+impl PlaceSet {
+    /// The set of no places.
+    pub const EMPTY: PlaceSet = PlaceSet {
+        regs: 0,
+        xmms: 0,
+        flags: 0,
+    };
+
+    /// Whether a place is in the set.
+    #[tactic(auto, using(crate::proofs::PlaceLemmas::reg_number_lt, crate::proofs::PlaceLemmas::xmm_number_lt, crate::proofs::PlaceLemmas::flag_number_lt))]
+    pub fn contains(self, place: Place) -> bool
+        ensures { result ≡ in_set self place }
+    {
+        match place {
+            Place::Reg(reg) => has_bit(self.regs, reg.number()),
+            Place::Xmm(xmm) => has_bit(self.xmms, xmm.number()),
+            Place::Flag(flag) => has_bit(u16::from(self.flags), flag.number()),
+        }
+    }
+}
+
+fn has_bit(bits: u16, number: usize) -> bool
+    requires { number < 16 }
+    ensures { result ≡ has_bit bits number }
+{
+    bits >> number & 1 == 1
+}
+
+#[cfg(test)]
+mod tests {
+    use super::*;
+    use crate::places::{FlagName, Reg, Xmm};
+
+    #[test]
+    fn holds_the_places_of_its_bits(rt: HostRuntime) {
+        let set = PlaceSet {
+            regs: 0x8001,
+            xmms: 2,
+            flags: 8,
+        };
+        assert!(rt; set.contains(Place::Reg(Reg::Rax)));
+        assert!(rt; set.contains(Place::Reg(Reg::R15)));
+        assert!(rt; !set.contains(Place::Reg(Reg::Rbx)));
+        assert!(rt; set.contains(Place::Xmm(Xmm::Xmm1)));
+        assert!(rt; set.contains(Place::Flag(FlagName::Of)));
+        assert!(rt; !set.contains(Place::Flag(FlagName::Cf)));
+        assert!(rt; !PlaceSet::EMPTY.contains(Place::Reg(Reg::Rax)));
+    }
+}
