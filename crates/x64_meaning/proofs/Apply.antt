@@ -1,5 +1,5 @@
 -- What the equations of an instruction leave.
-use Rattle.std.proofs.Common.{◌≡◌, ℕ, ◌+◌, ◌<◌, ◌≤◌, ◌^◌, ◌%◌, ℤ, pos, negsuc, Bool, true, false, not, List, [], ◌∷◌, refl, sym, ap, ◌∙◌, subst, arith, mod-eq_of_lt, ◌&&◌, ◌||◌, cond, ◌⊎◌, inl, inr, ⊎_elim, zero, suc}
+use Rattle.std.proofs.Common.{◌≡◌, ℕ, ◌≤◌, pos, Bool, true, false, not, List, [], ◌∷◌, refl, sym, ap, ◌∙◌, subst, arith, ◌||◌, cond, zero, suc}
 use Rattle.std.specs.Prelude.{nat_le, map}
 use Rattle.std.specs.List.{AllByRecursion}
 use Rattle.std.proofs.lemmas.Bool.{and_parts, or_parts, false≢true, leb-true}
@@ -10,15 +10,13 @@ use Rattle.x64_syntax.specs.declared.operands.Opr.TheVariants.{R, Imm, M}
 use Rattle.x64_syntax.specs.declared.instructions.AluOp.TheVariants.{Add}
 use Rattle.x64_syntax.specs.declared.instructions.Ins.{Ins}
 use Rattle.x64_syntax.specs.declared.instructions.Ins.TheVariants.{Mov, Alu}
-use Rattle.x64_syntax.specs.Places.{place_eq, reg_eq}
+use Rattle.x64_syntax.specs.Places.{place_eq}
 use Rattle.x64_syntax.proofs.PlaceLemmas.{place_eq_is, place_eq_same, reg_eq_same}
-use Rattle.term_core.specs.declared.term.Sort.{Sort}
 use Rattle.term_core.specs.declared.term.Sort.TheVariants as sort
-use Rattle.term_core.specs.Terms.{sort_eq}
-use Rattle.term_core.specs.Value.{T, T128, Val, Whole, Word, Wide, Truth, whole, word, wide, truth, cast}
-use Rattle.x64_meaning.specs.State.{State, IsState, place_sort, read, write, flag_from, flag_number_of}
-use Rattle.x64_meaning.specs.Exp.{Exp, Before, After, Loaded, Int, W64, Un, Bin, Ite, exp_sort, exp_value, among, knows}
-use Rattle.x64_meaning.specs.Table.{Equation, equations, writes, source, apply, suits, in_order}
+use Rattle.term_core.specs.Value.{Val, Whole, whole, truth, cast}
+use Rattle.x64_meaning.specs.State.{State, IsState, read, write, flag_from, flag_number_of}
+use Rattle.x64_meaning.specs.Exp.{Exp, Int, Ite, exp_sort, exp_value, among, knows}
+use Rattle.x64_meaning.specs.Table.{Equation, equations, source, apply, suits, in_order}
 use Rattle.x64_meaning.proofs.Reading.{Storable, read_written, read_other, write-IsState, read-sorted}
 use Rattle.term_core.proofs.Values.{IsOf, sort_eq_is}
 use Rattle.x64_meaning.proofs.Exps.{exp_value-same, exp_value-sorted}
@@ -27,9 +25,9 @@ use Rattle.x64_meaning.proofs.Exps.{exp_value-same, exp_value-sorted}
 among_apart : (ps : List Place) (p q : Place) → among ps p ≡ true → among ps q ≡ false → place_eq p q ≡ false
 among_apart ps p q in_them out = by_test (place_eq p q) refl
   where
-  by_test : (b : Bool) → place_eq p q ≡ b → b ≡ false
-  by_test false e = refl
-  by_test true e = absurd (false≢true (sym out ∙ ap (among ps) (sym (place_eq_is p q e)) ∙ in_them))
+    by_test : (b : Bool) → place_eq p q ≡ b → b ≡ false
+    by_test false e = refl
+    by_test true e = absurd (false≢true (sym out ∙ ap (among ps) (sym (place_eq_is p q e)) ∙ in_them))
 
 -- a whole number from 0 to 2 is kept by a flag
 small_flag : (n : ℕ) → nat_le n 2 ≡ true → flag_number_of (flag_from (pos n)) ≡ n
@@ -77,9 +75,9 @@ places es = map (λ e. e.place) es
 pub among_tail : (ps : List Place) (p q : Place) → among ps p ≡ true → among (q ∷ ps) p ≡ true
 among_tail ps p q h = either (place_eq p q)
   where
-  either : (b : Bool) → (b || among ps p) ≡ true
-  either true = refl
-  either false = h
+    either : (b : Bool) → (b || among ps p) ≡ true
+    either true = refl
+    either false = h
 
 pub among_head : (ps : List Place) (q : Place) → among (q ∷ ps) q ≡ true
 among_head ps q = ap (λ b. b || among ps q) (place_eq_same q)
@@ -133,13 +131,13 @@ apply-equations before m ok sm done (e ∷ es) now okn h =
     let end = apply before m es now' in
     let sorted : (f : Exp) → IsOf (exp_sort f) (exp_value (read before) (read now) m f) = exp_value-sorted (read before) (read now) m (λ p. read-sorted before p ok) (λ p. read-sorted now p okn) sm in
     let same : exp_value (read before) (read now) m e.right ≡ exp_value (read before) (read end) m e.right =
-      exp_value-same (read before) (read before) (read now) (read end) m done (λ p. refl)
-        (λ p d. sym (apply-done before m (e.place ∷ done) es now' o.rest p (among_tail done p e.place d) ∙ read_other now p e.place v (among_apart done p e.place d o.new)))
-        e.right o.taken in
-    ( apply-done before m (e.place ∷ done) es now' o.rest e.place (among_head done e.place)
-      ∙ read_written now e.place v okn (suits_stored (read before) (read now) m sorted e.place e.right o.stored)
-      ∙ same
-    , apply-equations before m ok sm (e.place ∷ done) es now' (write-IsState now e.place v okn) o.rest
+    exp_value-same (read before) (read before) (read now) (read end) m done (λ p. refl)
+    (λ p d. sym (apply-done before m (e.place ∷ done) es now' o.rest p (among_tail done p e.place d) ∙ read_other now p e.place v (among_apart done p e.place d o.new)))
+    e.right o.taken in (
+      apply-done before m (e.place ∷ done) es now' o.rest e.place (among_head done e.place)
+          ∙ read_written now e.place v okn (suits_stored (read before) (read now) m sorted e.place e.right o.stored)
+          ∙ same,
+      apply-equations before m ok sm (e.place ∷ done) es now' (write-IsState now e.place v okn) o.rest,
     )
 
 -- the equations of every instruction come in order

@@ -1,20 +1,12 @@
 -- An expression is worth what its term is worth.
-use Rattle.std.proofs.Common.{◌≡◌, ℕ, ◌+◌, ◌<◌, ◌%◌, ◌^◌, ◌≤◌, ℤ, pos, negsuc, Bool, true, false, List, [], ◌∷◌, refl, sym, ap, ◌∙◌, subst, arith, mod-eq_of_lt, ◌&&◌, cond, ◌⊎◌, inl, inr}
-use Rattle.std.specs.Prelude.{bit_and, bit_xor, nat_le}
-use Rattle.std.specs.Int.Bits.{and_lt}
-use Rattle.std.proofs.lemmas.Nat.{xor_lt, mod_below}
+use Rattle.std.proofs.Common.{◌≡◌, true, List, refl, ap, arith, mod-eq_of_lt, ◌&&◌}
+use Rattle.std.proofs.lemmas.Nat.{mod_below}
 use Rattle.std.proofs.lemmas.Bool.{and_parts}
 use Rattle.x64_syntax.specs.declared.places.Place.{Place}
-use Rattle.x64_syntax.specs.declared.places.Place.TheVariants.{Reg, Xmm, Flag}
-use Rattle.term_core.specs.declared.term.Sort.{Sort}
 use Rattle.term_core.specs.declared.term.Sort.TheVariants as sort
-use Rattle.term_core.specs.declared.term.UnOp.{UnOp}
 use Rattle.term_core.specs.declared.term.UnOp.TheVariants as un
-use Rattle.term_core.specs.declared.term.BinOp.{BinOp}
-use Rattle.term_core.specs.declared.term.BinOp.TheVariants as bin
-use Rattle.term_core.specs.Terms.{Tm, bin_sort, sum_sort, tm_sort}
-use Rattle.term_core.specs.Terms as tm
-use Rattle.term_core.specs.Value.{T, T128, Val, Whole, Word, Wide, Truth, whole, word, wide, truth, cast, un_value, bin_value, Assignment, value}
+use Rattle.term_core.specs.Terms.{Tm, bin_sort, tm_sort}
+use Rattle.term_core.specs.Value.{T, Val, Word, truth, un_value, Assignment, value}
 use Rattle.x64_meaning.specs.State.{place_sort}
 use Rattle.x64_meaning.specs.Exp.{Exp, Before, After, Loaded, Int, W64, Un, Bin, Ite, exp_sort, exp_value, exp_term, among, knows}
 use Rattle.term_core.proofs.Values.{IsOf, bin_value-sorted, choice-sorted}

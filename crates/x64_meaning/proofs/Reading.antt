@@ -1,18 +1,16 @@
 -- What is read after a write.
-use Rattle.std.proofs.Common.{◌≡◌, ◌≢◌, ℕ, zero, suc, ◌+◌, ◌<◌, ◌≤◌, ◌%◌, ◌^◌, ℤ, pos, negsuc, Bool, true, false, List, length, refl, sym, ap, ◌∙◌, subst, eqb, get_or, set, arith, mod-eq_of_lt, ◌⊎◌, inl, inr, ⊎_elim}
-use Rattle.std.specs.Prelude.{slice_index, slice_index_or, slice_set}
+use Rattle.std.proofs.Common.{◌≡◌, ℕ, ◌<◌, pos, false, List, length, refl, sym, ap, ◌∙◌, subst, set, arith, mod-eq_of_lt, inl, inr}
+use Rattle.std.specs.Prelude.{slice_index}
 use Rattle.std.proofs.lemmas.Bool.{eqb-false, cases_eq}
 use Rattle.std.proofs.lemmas.List.{get_or-set_same, get_or-set_other, length-set}
-use Rattle.std.proofs.lemmas.Nat.{mod_below}
 use Rattle.x64_syntax.specs.declared.places.Place.{Place}
 use Rattle.x64_syntax.specs.declared.places.Place.TheVariants.{Reg, Xmm, Flag}
 use Rattle.x64_syntax.specs.Places.{reg_number, xmm_number, flag_number, place_eq}
 use Rattle.x64_syntax.proofs.PlaceLemmas.{reg_number_lt, xmm_number_lt, flag_number_lt}
-use Rattle.term_core.specs.Value.{T, T128, Val, Whole, Word, Wide, Truth, whole, word, wide, cast}
+use Rattle.term_core.specs.Value.{T, T128, Val, Whole, Word, Wide, whole, word, wide, cast}
 use Rattle.term_core.proofs.Values.{word-lt, wide-lt}
-use Rattle.x64_meaning.specs.declared.machine.Flag.{Flag as FlagValue}
-use Rattle.x64_meaning.specs.declared.machine.Flag.TheVariants.{Zero, One, Undefined}
-use Rattle.x64_meaning.specs.State.{State, Block, IsState, Covers, block_at, flag_number_of, flag_from, flag, reg, place_sort, read, write}
+use Rattle.x64_meaning.specs.declared.machine.Flag.TheVariants.{Undefined}
+use Rattle.x64_meaning.specs.State.{State, IsState, flag_number_of, flag_from, place_sort, read, write}
 
 -- a place can hold the value
 abbrev pub Storable : Place → Val → Type 0
@@ -48,9 +46,9 @@ read_other s (Flag a) (Xmm b) v h = refl
 -- a number that fits, put into a list of numbers that fit
 set-lt : (xs : List ℕ) (i x bound : ℕ) → i < length xs → x < bound → ((k : ℕ) → slice_index xs k < bound) → (k : ℕ) → slice_index (set xs i x) k < bound
 set-lt xs i x bound within fits all k = elim (cases_eq k i) [
-    inl e ↦ subst (λ j. slice_index (set xs i x) j < bound) (sym e) (subst (λ n. n < bound) (sym (get_or-set_same xs i x 0 within)) fits)
+  | inl e ↦ subst (λ j. slice_index (set xs i x) j < bound) (sym e) (subst (λ n. n < bound) (sym (get_or-set_same xs i x 0 within)) fits)
   | inr ne ↦ subst (λ n. n < bound) (sym (get_or-set_other xs i k x 0 ne)) (all k)
-  ]
+]
 
 pub write-IsState : (s : State) (p : Place) (v : Val) → IsState s → IsState (write s p v)
 write-IsState s (Reg r) v ok = record {

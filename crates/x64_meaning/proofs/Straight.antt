@@ -1,16 +1,15 @@
 -- Straight code: an assignment makes all its equations true and names its end.
-use Rattle.std.proofs.Common.{◌≡◌, ◌≢◌, ℕ, zero, suc, ◌+◌, ◌<◌, ◌≤◌, ◌^◌, Bool, true, false, not, List, [], ◌∷◌, ◌++◌, length, refl, sym, ap, ◌∙◌, subst, arith, ◌&&◌, ◌||◌, cond, ℤ, pos, append_assoc}
-use Rattle.std.specs.Prelude.{nat_le, map, All, Option, Some, None, is_none, slice_get, if◌then◌else◌}
+use Rattle.std.proofs.Common.{◌≡◌, ℕ, zero, suc, ◌+◌, ◌<◌, ◌≤◌, ◌^◌, Bool, true, false, not, List, [], ◌∷◌, ◌++◌, length, refl, sym, ap, ◌∙◌, subst, arith, ◌||◌, cond, append_assoc}
+use Rattle.std.specs.Prelude.{map, Option, Some, None, is_none, slice_get, if◌then◌else◌}
 use Rattle.std.specs.List.{AllByRecursion, list_all}
 use Rattle.std.proofs.Common.{length-append}
 use Rattle.std.proofs.Math.Seq.{get_or-append_seam}
 use Rattle.std.proofs.lemmas.Option.{slice_get-get_or}
-use Rattle.std.proofs.lemmas.Bool.{and_parts, false≢true, eq-eqb}
+use Rattle.std.proofs.lemmas.Bool.{and_parts, false≢true}
 use Rattle.x64_syntax.specs.declared.places.Reg.TheVariants.{Rsp}
-use Rattle.x64_syntax.specs.declared.places.FlagName.{FlagName}
 use Rattle.x64_syntax.specs.declared.places.FlagName.TheVariants.{Cf, Zf, Sf, Of}
 use Rattle.x64_syntax.specs.declared.places.Place.{Place}
-use Rattle.x64_syntax.specs.declared.places.Place.TheVariants.{Reg, Xmm, Flag}
+use Rattle.x64_syntax.specs.declared.places.Place.TheVariants.{Reg, Flag}
 use Rattle.x64_syntax.specs.Places.{place_eq}
 use Rattle.x64_syntax.proofs.PlaceLemmas.{place_eq_is}
 use Rattle.x64_syntax.specs.declared.operands.Mem.{Mem}
@@ -18,20 +17,18 @@ use Rattle.x64_syntax.specs.declared.instructions.Ins.{Ins}
 use Rattle.x64_syntax.specs.declared.items.Item.{Item}
 use Rattle.x64_syntax.specs.declared.items.Item.TheVariants as item
 use Rattle.term_core.specs.declared.term.Sort.{Sort}
-use Rattle.term_core.specs.declared.term.Sort.TheVariants as sort
-use Rattle.term_core.specs.declared.term.BinOp.TheVariants as bin
-use Rattle.term_core.specs.Terms.{Tm, Name, Bin, W64, tm_sort}
-use Rattle.term_core.specs.Value.{Val, Whole, Word, Wide, Truth, cast, val_eq, Assignment, value, Holds, True}
+use Rattle.term_core.specs.Terms.{W64}
+use Rattle.term_core.specs.Value.{Val, Word, Truth, cast, val_eq, Assignment, value, Holds, True}
 use Rattle.x64_meaning.specs.State.{State, IsState, place_sort, read, reg}
-use Rattle.x64_meaning.specs.Exp.{Exp, exp_value, exp_term, among, knows}
-use Rattle.x64_meaning.specs.Table.{Equation, equations, writes, apply, reads, loads_from, in_order}
-use Rattle.x64_meaning.specs.Run.{after, does, with_flags, first_undefined, Outcome, Done, Way, start, stepped, End, Ended, run, act, after_does}
-use Rattle.x64_meaning.specs.Contract.{Contract, Worth, Pre, Post, Frame, Meets}
+use Rattle.x64_meaning.specs.Exp.{Exp, exp_value, exp_term, among}
+use Rattle.x64_meaning.specs.Table.{Equation, equations, writes, reads, loads_from, in_order}
+use Rattle.x64_meaning.specs.Run.{after, does, Done, Way, start, stepped, Ended, run, act, after_does}
+use Rattle.x64_meaning.specs.Contract.{Contract, Worth, Post, Frame, Meets}
 use Rattle.x64_meaning.specs.Condition.{Versions, version, version_name, next_versions, hypothesis, hypotheses, end_versions, first_versions, straight_hyps, straight_goal, is_plain, unwritten, straight_items, StraightFits}
 use Rattle.term_core.proofs.Values.{val_eq_same}
 use Rattle.x64_meaning.proofs.Reading.{read-sorted}
 use Rattle.x64_meaning.proofs.Exps.{exp_term-value, exp_value-same, exp_value-all}
-use Rattle.x64_meaning.proofs.Apply.{apply-other, apply-IsState, apply-blocks, apply-equations, equations-in_order, Equal, Order, not_true, order_of, places, among_head, among_tail}
+use Rattle.x64_meaning.proofs.Apply.{apply-other, apply-IsState, apply-blocks, apply-equations, equations-in_order, Equal, not_true, order_of, places, among_head, among_tail}
 use Rattle.x64_meaning.proofs.Names.{place_in, version_in, place_in-version_name, version_in-version_name}
 
 -- the state after an instruction that loads nothing
@@ -77,14 +74,14 @@ follows-next : (a : Assignment) (v : Versions) (i : Ins) (is : List Ins) (s : St
 unfolding value_at
 follows-next a v i is s f = record { names = λ p j le. either p j le (among (writes i) p) refl }
   where
-  either : (p : Place) (j : ℕ) → j ≤ length is → (b : Bool) → among (writes i) p ≡ b → value a (version p (cond b (v p + 1) (v p) + j)) ≡ value_at is (next s i) p j
-  either p j le true w =
-      let e : v p + 1 + j ≡ v p + suc j = omega arith in
-      ap (λ n. value a (version p n)) e ∙ f.names p (suc j) (omega arith) ∙ ap (λ b. cond b (value_at is (next s i) p j) (value_at is (next s i) p (suc j))) w
-  either p zero le false w =
-      f.names p 0 (omega arith) ∙ sym (apply-other s (Word 0) (equations i) s p w) ∙ sym (value_at-zero is (next s i) p)
-  either p (suc j) le false w =
-      f.names p (suc j) (omega arith) ∙ ap (λ b. cond b (value_at is (next s i) p j) (value_at is (next s i) p (suc j))) w
+    either : (p : Place) (j : ℕ) → j ≤ length is → (b : Bool) → among (writes i) p ≡ b → value a (version p (cond b (v p + 1) (v p) + j)) ≡ value_at is (next s i) p j
+    either p j le true w =
+        let e : v p + 1 + j ≡ v p + suc j = omega arith in
+        ap (λ n. value a (version p n)) e ∙ f.names p (suc j) (omega arith) ∙ ap (λ b. cond b (value_at is (next s i) p j) (value_at is (next s i) p (suc j))) w
+    either p zero le false w =
+        f.names p 0 (omega arith) ∙ sym (apply-other s (Word 0) (equations i) s p w) ∙ sym (value_at-zero is (next s i) p)
+    either p (suc j) le false w =
+        f.names p (suc j) (omega arith) ∙ ap (λ b. cond b (value_at is (next s i) p j) (value_at is (next s i) p (suc j))) w
 
 -- the present versions and the next ones
 follows-now : (a : Assignment) (v : Versions) (is : List Ins) (s : State) → Follows a v is s → (p : Place) → value a (version p (v p)) ≡ read s p
@@ -107,17 +104,17 @@ equations_hold a v s t now done (e ∷ es) h in_done in_es eq =
     let o = order_of done e es h in
     let term = exp_term-value (λ p. version p (v p)) (λ p. version p (v p + 1)) (W64 0) (λ p. refl) (λ p. refl) refl a e.right in
     let same = exp_value-same (λ p. value a (version p (v p))) (read s) (λ p. value a (version p (v p + 1))) (read t) (Word 0) done now in_done e.right o.taken in
-    let right : value a (exp_term (λ p. version p (v p)) (λ p. version p (v p + 1)) (W64 0) e.right) ≡ exp_value (read s) (read t) (Word 0) e.right = term ∙ same in
-    ( equal_holds _ _ (in_es e.place (among_head (places es) e.place) ∙ eq.0 ∙ sym right)
-    , equations_hold a v s t now (e.place ∷ done) es o.rest (either e.place done in_done (in_es e.place (among_head (places es) e.place))) (λ p d. in_es p (among_tail (places es) p e.place d)) eq.1
+    let right : value a (exp_term (λ p. version p (v p)) (λ p. version p (v p + 1)) (W64 0) e.right) ≡ exp_value (read s) (read t) (Word 0) e.right = term ∙ same in (
+      equal_holds _ _ (in_es e.place (among_head (places es) e.place) ∙ eq.0 ∙ sym right),
+      equations_hold a v s t now (e.place ∷ done) es o.rest (either e.place done in_done (in_es e.place (among_head (places es) e.place))) (λ p d. in_es p (among_tail (places es) p e.place d)) eq.1,
     )
   where
-  either : (q : Place) (ps : List Place) → ((p : Place) → among ps p ≡ true → value a (version p (v p + 1)) ≡ read t p) → value a (version q (v q + 1)) ≡ read t q → (p : Place) → among (q ∷ ps) p ≡ true → value a (version p (v p + 1)) ≡ read t p
-  either q ps rest here p d = by_test (place_eq p q) refl d
-    where
-    by_test : (b : Bool) → place_eq p q ≡ b → (b || among ps p) ≡ true → value a (version p (v p + 1)) ≡ read t p
-    by_test true e d = subst (λ r. value a (version r (v r + 1)) ≡ read t r) (sym (place_eq_is p q e)) here
-    by_test false e d = rest p d
+    either : (q : Place) (ps : List Place) → ((p : Place) → among ps p ≡ true → value a (version p (v p + 1)) ≡ read t p) → value a (version q (v q + 1)) ≡ read t q → (p : Place) → among (q ∷ ps) p ≡ true → value a (version p (v p + 1)) ≡ read t p
+    either q ps rest here p d = by_test (place_eq p q) refl d
+      where
+        by_test : (b : Bool) → place_eq p q ≡ b → (b || among ps p) ≡ true → value a (version p (v p + 1)) ≡ read t p
+        by_test true e d = subst (λ r. value a (version r (v r + 1)) ≡ read t r) (sym (place_eq_is p q e)) here
+        by_test false e d = rest p d
 
 all_append : {A : Type 0} (P : A → Type 0) (xs ys : List A) → AllByRecursion P xs → AllByRecursion P ys → AllByRecursion P (xs ++ ys)
 all_append P [] ys h k = k
@@ -128,10 +125,10 @@ hypotheses_hold : (a : Assignment) (v : Versions) (is : List Ins) (s : State) �
 hypotheses_hold a v [] s ok f = tt
 hypotheses_hold a v (i ∷ is) s ok f =
     all_append (Holds a) (map (hypothesis v) (equations i)) (hypotheses (next_versions v (writes i)) is)
-      (equations_hold a v s (next s i) (follows-now a v (i ∷ is) s f) [] (equations i) (equations-in_order i)
-        (λ p d. absurd (false≢true d)) (follows-written a v i is s f)
-        (apply-equations s (Word 0) ok refl [] (equations i) s ok (equations-in_order i)))
-      (hypotheses_hold a (next_versions v (writes i)) is (next s i) (next-IsState s i ok) (follows-next a v i is s f))
+    (equations_hold a v s (next s i) (follows-now a v (i ∷ is) s f) [] (equations i) (equations-in_order i)
+    (λ p d. absurd (false≢true d)) (follows-written a v i is s f)
+    (apply-equations s (Word 0) ok refl [] (equations i) s ok (equations-in_order i)))
+    (hypotheses_hold a (next_versions v (writes i)) is (next s i) (next-IsState s i ok) (follows-next a v i is s f))
 
 -- it names the end
 follows_end : (a : Assignment) (v : Versions) (is : List Ins) (s : State) → Follows a v is s → (p : Place) → value a (version p (end_versions v is p)) ≡ read (end_of s is) p
@@ -146,13 +143,13 @@ assignment-follows : (is : List Ins) (s : State) → IsState s → length is < 2
 unfolding assignment
 assignment-follows is s ok small = record { names = λ p j le. name p j le }
   where
-  name : (p : Place) (j : ℕ) → j ≤ length is → value (assignment is s) (version p (first_versions p + j)) ≡ value_at is s p j
-  name p j le =
-      let e : first_versions p + j ≡ j = omega arith in
-      ap (λ n. value (assignment is s) (version p n)) e
-      ∙ ap (λ q. cast (place_sort p) (value_at is s q (version_in (version_name p j)))) (place_in-version_name p j)
-      ∙ ap (λ k. cast (place_sort p) (value_at is s p k)) (version_in-version_name p j (omega arith))
-      ∙ value_at-sorted is s p j ok
+    name : (p : Place) (j : ℕ) → j ≤ length is → value (assignment is s) (version p (first_versions p + j)) ≡ value_at is s p j
+    name p j le =
+        let e : first_versions p + j ≡ j = omega arith in
+        ap (λ n. value (assignment is s) (version p n)) e
+        ∙ ap (λ q. cast (place_sort p) (value_at is s q (version_in (version_name p j)))) (place_in-version_name p j)
+        ∙ ap (λ k. cast (place_sort p) (value_at is s p k)) (version_in-version_name p j (omega arith))
+        ∙ value_at-sorted is s p j ok
 
 -- What follows from the equations is true of a run.
 goal_true : (is : List Ins) (e : Exp) (s : State) → IsState s → length is < 2 ^ 64 → True (straight_hyps is) (straight_goal is e) → Worth (read s) (read (end_of s is)) e
@@ -206,7 +203,7 @@ run_straight items (i ∷ is) at w plain has =
     let w1 = stepped w (next w.state i) [] in
     let rest = run_straight items is (at + 1) w1 p.1 has.1 in
     let step : run items (suc rest.0) at w ≡ run items rest.0 (at + 1) w1 =
-      ap (λ o. act items o (run items rest.0) at w) has.0 ∙ ap (λ d. after_does d (run items rest.0) at w) (plain_does i w.state p.0) in
+    ap (λ o. act items o (run items rest.0) at w) has.0 ∙ ap (λ d. after_does d (run items rest.0) at w) (plain_does i w.state p.0) in
     (suc rest.0, rest.1, step ∙ rest.2, rest.3)
 
 -- a place that isn't written is as it was

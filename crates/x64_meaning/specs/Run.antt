@@ -1,5 +1,5 @@
 -- What one instruction does, and runs of flat code.
-use Rattle.std.specs.Prelude.{ℕ, zero, suc, ◌+◌, ◌*◌, ◌%◌, Bool, true, false, not, ◌&&◌, ◌||◌, ◌==◌, List, [], ◌∷◌, ◌++◌, Option, Some, None, slice_get, position, if◌then◌else◌}
+use Rattle.std.specs.Prelude.{ℕ, zero, suc, ◌+◌, ◌*◌, ◌%◌, Bool, true, false, not, ◌&&◌, ◌||◌, ◌==◌, List, [], ◌∷◌, ◌++◌, Option, Some, None, slice_get, position}
 use Rattle.std.specs.List.{find}
 use Rattle.x64_syntax.specs.declared.places.Reg.{Reg as GeneralReg}
 use Rattle.x64_syntax.specs.declared.places.FlagName.{FlagName}

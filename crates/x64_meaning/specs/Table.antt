@@ -1,13 +1,11 @@
 -- The instruction table, after volume 2 of Intel's manual: each instruction's equations, in order. The place on the left
 -- gets the value on the right. This table alone decides what an instruction does, reads and writes.
-use Rattle.std.specs.Prelude.{◌≡◌, ℕ, ◌+◌, ◌-◌, ◌*◌, ◌%◌, ◌^◌, ℤ, pos, negsuc, Bool, not, ◌&&◌, ◌||◌, true, false, nat_le, List, [], ◌∷◌, ◌++◌, map, Option, Some, None, if◌then◌else◌}
-use Rattle.std.specs.List.{list_any, find}
-use Rattle.std.specs.Option.{option_map}
-use Rattle.x64_syntax.specs.declared.places.Reg.{Reg as GeneralReg}
+use Rattle.std.specs.Prelude.{ℕ, ◌-◌, ◌%◌, ◌^◌, ℤ, pos, negsuc, Bool, not, ◌&&◌, true, false, nat_le, List, [], ◌∷◌, map, Option, Some, None}
+use Rattle.std.specs.List.{list_any}
 use Rattle.x64_syntax.specs.declared.places.FlagName.{FlagName}
 use Rattle.x64_syntax.specs.declared.places.FlagName.TheVariants.{Cf, Zf, Sf, Of}
 use Rattle.x64_syntax.specs.declared.places.Place.{Place}
-use Rattle.x64_syntax.specs.declared.places.Place.TheVariants.{Reg, Xmm, Flag}
+use Rattle.x64_syntax.specs.declared.places.Place.TheVariants.{Reg, Flag}
 use Rattle.x64_syntax.specs.declared.operands.Mem.{Mem}
 use Rattle.x64_syntax.specs.declared.operands.Opr.{Opr}
 use Rattle.x64_syntax.specs.declared.operands.Opr.TheVariants.{R, Imm, M}
@@ -20,7 +18,7 @@ use Rattle.term_core.specs.declared.term.UnOp.TheVariants as un
 use Rattle.term_core.specs.declared.term.BinOp.TheVariants as bin
 use Rattle.term_core.specs.Terms.{sort_eq}
 use Rattle.term_core.specs.Value.{T, Val}
-use Rattle.x64_meaning.specs.State.{State, read, write, reg, place_sort}
+use Rattle.x64_meaning.specs.State.{State, read, write}
 use Rattle.x64_meaning.specs.Exp.{Exp, Before, After, Loaded, Int, W64, Un, Bin, Ite, exp_value, exp_sort, among, takes, knows}
 
 pub record Equation : Type 0 where

@@ -8,5 +8,4 @@ ghost use Rattle.x64_meaning.specs.Condition.{StraightFits, straight_items};
 /// Straight code whose promises follow from its equations meets its contract.
 pub fn straight_code()
     ensures { (name : List ℕ) (is : List Ins) (c : Contract) → StraightFits is c → Meets c (straight_items name is) 0 }
-{
-}
+{}
