@@ -1,9 +1,8 @@
 // The program `vale`: the words of its command line, the system's files and streams, and its exit status.
 #![tactic(auto)]
 
-use std::env;
-use std::io;
 use std::process::ExitCode;
+use std::{env, io};
 use vale_driver::run;
 use vale_outside::{FileStore, StreamSink};
 

@@ -1,25 +1,21 @@
 -- What is built meets its contract and reads as its code.
-use Rattle.std.proofs.Common.{◌≡◌, ℕ, suc, ◌<◌, ◌≤◌, ◌^◌, ℤ, Bool, true, false, not, cond, List, [], ◌∷◌, ◌++◌, length, map, Option, Some, None, refl, sym, ap, ◌∙◌, subst, arith, ◌&&◌, ◌||◌, eqb}
+use Rattle.std.proofs.Common.{◌≡◌, ℕ, suc, ℤ, true, false, List, [], ◌∷◌, ◌++◌, length, map, refl, sym, ap, arith}
 use Rattle.std.specs.Prelude.{IfSome}
 use Rattle.std.specs.List.{list_all, AllByRecursion}
-use Rattle.std.proofs.lemmas.Bool.{and_parts, and_from, or_from, false≢true, eqb-false, ne_eqb}
+use Rattle.std.proofs.lemmas.Bool.{and_from, or_from, false≢true, eqb-false, ne_eqb}
 use Rattle.x64_syntax.specs.declared.places.Reg.{Reg as GeneralReg}
-use Rattle.x64_syntax.specs.declared.places.Reg.TheVariants.{Rsp}
 use Rattle.x64_syntax.specs.declared.places.Place.{Place}
 use Rattle.x64_syntax.specs.declared.places.Place.TheVariants.{Reg, Xmm, Flag}
-use Rattle.x64_syntax.specs.declared.instructions.Ins.{Ins}
-use Rattle.x64_syntax.specs.declared.items.Item.{Item}
 use Rattle.x64_syntax.specs.declared.items.Item.TheVariants as item
-use Rattle.x64_syntax.specs.Places.{reg_number, reg_eq}
-use Rattle.term_core.specs.Value.{True}
-use Rattle.x64_meaning.specs.Contract.{Contract, Meets}
-use Rattle.x64_meaning.specs.Condition.{is_plain, unwritten, straight_hyps, straight_goal, straight_items, StraightFits}
+use Rattle.x64_syntax.specs.Places.{reg_number}
+use Rattle.x64_meaning.specs.Contract.{Meets}
+use Rattle.x64_meaning.specs.Condition.{is_plain, unwritten, StraightFits}
 use Rattle.x64_meaning.proofs.Straight.{straight_meets}
 use Rattle.vale_driver.specs.declared.straight.Straight.{Straight}
 use Rattle.vale_driver.specs.Source.{IsStraight, FitsAmount, Spells}
 use Rattle.vale_driver.specs.Certificate.{Pair, Proves}
 use Rattle.vale_driver.specs.Ring.{ring_closes}
-use Rattle.vale_driver.specs.Build.{add_amount, instructions, promise, contract_of, is_changed, condition_hyps, condition_goal, lowered}
+use Rattle.vale_driver.specs.Build.{add_amount, instructions, contract_of, is_changed, condition_hyps, condition_goal, lowered}
 use Rattle.vale_driver.specs.Assembly.{IsItem, IsProgram, ReadsAs, text_of, has_entry, distinct_entries, is_operand}
 use Rattle.vale_driver.specs.Outcome.{Told, IsBuilt}
 use Rattle.vale_driver.proofs.RingSound.{ring_sound}

@@ -1,10 +1,9 @@
 -- A certificate is read exactly where it is spelled so.
-use Rattle.std.proofs.Common.{◌≡◌, ℕ, zero, suc, ◌+◌, ◌-◌, ◌<◌, ◌≤◌, ◌^◌, Bool, true, false, not, cond, List, [], ◌∷◌, ◌++◌, length, Option, Some, None, refl, sym, ap, ◌∙◌, subst, arith, ◌&&◌, decimal}
+use Rattle.std.proofs.Common.{◌≡◌, ℕ, zero, suc, ◌+◌, ◌<◌, ◌≤◌, ◌^◌, Bool, true, false, cond, List, [], ◌∷◌, ◌++◌, length, Option, Some, None, refl, sym, ap, ◌∙◌, subst, arith, decimal}
 use Rattle.std.specs.Prelude.{codes, nat_le}
 use Rattle.std.specs.List.{AllByRecursion}
-use Rattle.std.proofs.lemmas.Bool.{and_parts, and_from, false≢true, leb-true, le-leb}
+use Rattle.std.proofs.lemmas.Bool.{leb-true, le-leb}
 use Rattle.std.proofs.Common.{length-append}
-use Rattle.x64_syntax.specs.Words.{is_digit_byte}
 use Rattle.vale_driver.specs.Reading.{◌>>=◌, given, strip, number_at}
 use Rattle.vale_driver.specs.Source.{last, ends}
 use Rattle.vale_driver.specs.Certificate.{Pair, FitsPair, hypothesis_limit, pair_text, more_text, pairs_text, certificate_text, pair_at, more_at, with_pairs, behind_comma, begins_pair, pairs_at, opening_at, certificate_at}

@@ -1,19 +1,17 @@
 -- The condition that the checker builds is that of the source.
-use Rattle.std.proofs.Common.{◌≡◌, ℕ, zero, suc, ◌+◌, ◌-◌, ◌%◌, ◌<◌, ◌≤◌, ◌^◌, ℤ, pos, negsuc, Bool, true, false, cond, List, [], ◌∷◌, ◌++◌, length, drop, map, refl, sym, ap, ◌∙◌, subst, arith, append_assoc, get_or, drop-cons, mod-eq_of_lt, SFits, w64}
+use Rattle.std.proofs.Common.{◌≡◌, ℕ, suc, ◌+◌, ◌-◌, ◌<◌, ◌≤◌, ℤ, pos, negsuc, List, [], ◌∷◌, ◌++◌, length, drop, map, refl, sym, ap, ◌∙◌, arith, append_assoc, get_or, drop-cons, mod-eq_of_lt, SFits, w64}
 use Rattle.std.specs.Int.{cast_unsigned}
 use Rattle.std.proofs.lemmas.Int.{ints}
 use Rattle.x64_syntax.specs.declared.places.Reg.{Reg as GeneralReg}
 use Rattle.x64_syntax.specs.declared.places.FlagName.TheVariants.{Cf, Zf, Sf, Of}
-use Rattle.x64_syntax.specs.declared.places.Place.{Place}
 use Rattle.x64_syntax.specs.declared.places.Place.TheVariants.{Reg, Flag}
-use Rattle.x64_syntax.specs.declared.instructions.Ins.{Ins}
 use Rattle.x64_syntax.proofs.PlaceLemmas.{reg_eq_same}
 use Rattle.term_core.specs.Terms.{Tm}
 use Rattle.term_core.specs.Value.{T}
 use Rattle.x64_meaning.specs.Table.{equations, writes, word_of}
-use Rattle.x64_meaning.specs.Condition.{Versions, version, next_versions, hypothesis, hypotheses, end_versions, first_versions}
+use Rattle.x64_meaning.specs.Condition.{Versions, next_versions, hypothesis, hypotheses, end_versions, first_versions}
 use Rattle.vale_driver.specs.declared.straight.Straight.{Straight}
-use Rattle.vale_driver.specs.Build.{add_amount, instructions, promise, condition_hyps, condition_goal, statement_hyps, hyps_from}
+use Rattle.vale_driver.specs.Build.{add_amount, instructions, condition_hyps, condition_goal, statement_hyps, hyps_from}
 use Rattle.vale_driver.proofs.RingCode.{drop_all}
 use Rattle.vale_driver.specs.Addition.{sum_term, carry_term, zero_term, sign_term, overflow_term, addition_terms, promise_term}
 

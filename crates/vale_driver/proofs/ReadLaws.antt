@@ -1,12 +1,12 @@
 -- What an exact reading says of the texts that are of the form.
-use Rattle.std.proofs.Common.{◌≡◌, ℕ, ◌≤◌, ◌<◌, List, length, Option, Some, None, Result, Ok, Err, sym, ap, ◌∙◌, arith}
+use Rattle.std.proofs.Common.{◌≡◌, ℕ, ◌≤◌, List, length, Some, None, Result, Ok, Err, sym, ap, ◌∙◌}
 use Rattle.std.specs.Prelude.{IfOk, Vec}
 use Rattle.std.specs.declared.alloc.Global.{Global}
 use Rattle.vale_driver.specs.declared.straight.Straight.{Straight}
 use Rattle.vale_driver.specs.declared.source.ReadFault.{ReadFault}
 use Rattle.vale_driver.specs.declared.source.ReadFault.TheVariants.{NotOfForm, NoMemory}
-use Rattle.vale_driver.specs.Source.{IsStraight, Spells, spelling, last, source_limit, source_at, Reads}
-use Rattle.vale_driver.specs.Certificate.{Pair, Proves, certificate_text, certificate_limit, certificate_at}
+use Rattle.vale_driver.specs.Source.{IsStraight, Spells, source_limit, source_at, Reads}
+use Rattle.vale_driver.specs.Certificate.{Pair, Proves, certificate_limit, certificate_at}
 use Rattle.vale_driver.proofs.SourceLaws.{source_is, source_takes}
 use Rattle.vale_driver.proofs.CertificateLaws.{certificate_is, certificate_takes}
 

@@ -1,17 +1,17 @@
 -- The checker's sums are those of the rule.
-use Rattle.std.proofs.Common.{◌≡◌, ℕ, zero, suc, ◌+◌, ◌-◌, ◌*◌, ◌%◌, ◌<◌, ◌≤◌, ◌^◌, Bool, true, false, cond, List, [], ◌∷◌, ◌++◌, length, take, drop, map, Option, Some, None, refl, sym, ap, ◌∙◌, subst, arith, ◌&&◌, mod-eq_of_lt}
+use Rattle.std.proofs.Common.{◌≡◌, ℕ, zero, suc, ◌+◌, ◌%◌, ◌<◌, ◌≤◌, Bool, true, false, cond, List, [], ◌∷◌, ◌++◌, length, drop, Option, Some, None, refl, sym, ap, ◌∙◌, subst, arith, ◌&&◌, mod-eq_of_lt}
 use Rattle.std.proofs.Common.{get_or, drop-cons, append_assoc}
-use Rattle.std.specs.Prelude.{slice_get, min, nat_le}
+use Rattle.std.specs.Prelude.{slice_get}
 use Rattle.std.specs.Option.{option_map}
 use Rattle.std.proofs.lemmas.Nat.{mod_below}
-use Rattle.std.proofs.lemmas.Bool.{false≢true, lt-leb}
+use Rattle.std.proofs.lemmas.Bool.{lt-leb}
 use Rattle.term_core.specs.declared.term.Term.{Term}
 use Rattle.term_core.specs.Terms.{Tm, tree, trees}
 use Rattle.term_core.specs.Value.{T}
 use Rattle.vale_driver.specs.declared.ring.Occurring.{Occurring}
 use Rattle.vale_driver.specs.Certificate.{Pair}
 use Rattle.vale_driver.specs.Reading.{◌>>=◌}
-use Rattle.vale_driver.specs.Ring.{Occurrence, same_atom, coefficient, balanced, difference, times, width, width_limit, Sides, sides, Weighted, weighted, closes_with}
+use Rattle.vale_driver.specs.Ring.{Occurrence, same_atom, coefficient, balanced, difference, times, width, width_limit, Sides, sides, Weighted, weighted}
 use Rattle.vale_driver.specs.RingCode.{seen_all, Never, hypothesis_sides_of}
 
 coefficient-lt : (m : Option Tm) (os : List Occurrence) → coefficient m os < T

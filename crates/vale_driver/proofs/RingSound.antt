@@ -1,21 +1,17 @@
 -- Where the rule `ring` applies, the goal is true wherever the hypotheses are.
-use Rattle.std.proofs.Common.{◌≡◌, ℕ, zero, suc, ◌+◌, ◌-◌, ◌*◌, ◌%◌, ◌<◌, ◌≤◌, ◌^◌, Bool, true, false, not, cond, List, [], ◌∷◌, ◌++◌, length, map, Option, Some, None, refl, sym, ap, ◌∙◌, subst, arith, ◌&&◌, eqb, ◌⊎◌, inl, inr, mod-eq_of_lt, length-append}
+use Rattle.std.proofs.Common.{◌≡◌, ℕ, zero, suc, ◌+◌, ◌-◌, ◌*◌, ◌%◌, ◌<◌, ◌≤◌, Bool, true, false, not, cond, List, [], ◌∷◌, ◌++◌, length, Option, Some, None, refl, sym, ap, ◌∙◌, subst, arith, ◌&&◌, eqb, ◌⊎◌, inl, inr, mod-eq_of_lt}
 use Rattle.std.specs.Prelude.{slice_get}
 use Rattle.std.specs.List.{list_all, AllByRecursion}
 use Rattle.std.proofs.lemmas.Bool.{and_parts, and_from, false≢true, eqb-true}
 use Rattle.std.proofs.lemmas.Nat.{mod_below, mul-mod_second, mul-mod_first}
-use Rattle.std.proofs.Math.Nat.{add-mod-mod, mod-add-mod, mod-mod, mul_comm, mul_assoc, add_comm, add-mul-mod_self_left}
-use Rattle.term_core.specs.declared.term.Sort.{Sort}
+use Rattle.std.proofs.Math.Nat.{add-mod-mod, mod-add-mod, mul_assoc, add-mul-mod_self_left}
 use Rattle.term_core.specs.declared.term.Sort.TheVariants as sort
-use Rattle.term_core.specs.declared.term.UnOp.{UnOp}
-use Rattle.term_core.specs.declared.term.BinOp.{BinOp}
 use Rattle.term_core.specs.declared.term.BinOp.TheVariants as bin
-use Rattle.term_core.specs.Terms.{Tm, Name, Int, W64, Un, Bin, Ite, tm_eq, tm_sort, sort_eq}
-use Rattle.term_core.specs.Value.{T, Val, Whole, Truth, Word, Wide, word, cast, val_eq, sum_value, bin_value, Assignment, value, Holds, True}
+use Rattle.term_core.specs.Terms.{Tm, W64, Bin, tm_sort, sort_eq}
+use Rattle.term_core.specs.Value.{T, Truth, Word, word, cast, val_eq, sum_value, Assignment, value, Holds}
 use Rattle.term_core.proofs.Values.{word-lt, value-sorted, val_eq_is, val_eq_same, tm_eq_is, tm_eq_same, sort_eq_is}
 use Rattle.vale_driver.specs.Certificate.{Pair}
-use Rattle.vale_driver.specs.Reading.{◌>>=◌, given}
-use Rattle.vale_driver.specs.Ring.{Occurrence, alone, of_words, occurrences, width, times, difference, same_atom, coefficient, balanced, Sides, sides, Weighted, weighted, closes_with, closes_sides, ring_closes, width_limit}
+use Rattle.vale_driver.specs.Ring.{Occurrence, alone, of_words, occurrences, times, difference, same_atom, coefficient, balanced, Sides, sides, Weighted, weighted, closes_with, closes_sides, ring_closes}
 use Rattle.vale_driver.proofs.Pieces.{bind_some, given_some}
 
 -- equal modulo 2^64

@@ -1,15 +1,15 @@
 -- A source is read exactly where it is spelled so.
-use Rattle.std.proofs.Common.{◌≡◌, ℕ, zero, suc, ◌+◌, ◌-◌, ◌<◌, ◌≤◌, ◌^◌, ℤ, Bool, true, false, not, cond, List, [], ◌∷◌, ◌++◌, length, Option, Some, None, refl, sym, ap, ◌∙◌, subst, arith, ◌&&◌, decimal}
+use Rattle.std.proofs.Common.{◌≡◌, ℕ, zero, suc, ◌<◌, ◌≤◌, ◌^◌, ℤ, Bool, true, false, not, List, [], ◌∷◌, ◌++◌, length, Option, Some, None, refl, sym, ap, ◌∙◌, subst, arith, ◌&&◌, decimal}
 use Rattle.std.specs.Prelude.{codes, ◌==◌, nat_le}
 use Rattle.std.specs.Fmt.{signed_decimal}
-use Rattle.std.specs.List.{prefix_len, list_all, AllByRecursion}
+use Rattle.std.specs.List.{list_all, AllByRecursion}
 use Rattle.std.proofs.lemmas.Bool.{and_parts, and_from, false≢true, leb-true, le-leb, eqb-true}
 use Rattle.x64_syntax.specs.declared.places.Reg.{Reg}
 use Rattle.x64_syntax.specs.Places.{reg_name, reg_number}
-use Rattle.x64_syntax.specs.Words.{is_name_byte, is_digit_byte, is_letter_byte, is_name_text, is_reserved_name, is_export_text}
+use Rattle.x64_syntax.specs.Words.{is_name_byte, is_name_text, is_reserved_name, is_export_text}
 use Rattle.vale_driver.specs.declared.straight.Straight.{Straight}
 use Rattle.vale_driver.specs.Reading.{◌>>=◌, given, strip, span, number_at, register_at, signed_at}
-use Rattle.vale_driver.specs.Source.{IsStraight, FitsAmount, statement_limit, statement_text, statements_text, head_text, tail_text, spelling, last, again_at, modifies_at, ensures_at, name_at, export_at, head_at, statement_at, statements_at, with_front, begins_tail, ends, tail_at, source_at}
+use Rattle.vale_driver.specs.Source.{IsStraight, FitsAmount, statement_limit, statement_text, statements_text, tail_text, spelling, last, again_at, modifies_at, ensures_at, name_at, export_at, head_at, statement_at, statements_at, with_front, begins_tail, ends, tail_at, source_at}
 use Rattle.vale_driver.proofs.Steps.{at_tail, at_statement, at_limit}
 use Rattle.vale_driver.proofs.Pieces.{bind_some, given_some, strip_is, strip_takes, takes, stops, span_front, span_whole, number_is, number_takes, register_is, register_takes, signed_is, signed_takes, not_true, not_false, Fits32}
 

@@ -1,5 +1,5 @@
 -- No two lists of items have one text.
-use Rattle.std.proofs.Common.{◌≡◌, ◌≢◌, ℕ, zero, suc, ◌+◌, ◌-◌, ◌%◌, ◌<◌, ◌≤◌, ◌^◌, ℤ, pos, negsuc, Bool, true, false, not, cond, List, [], ◌∷◌, ◌++◌, length, Option, Some, None, refl, sym, ap, ◌∙◌, subst, arith, ◌&&◌, ◌||◌, decimal, eqb, mod-eq_of_lt, append_assoc, get_or, drop}
+use Rattle.std.proofs.Common.{◌≡◌, ℕ, suc, ◌%◌, ◌<◌, ◌^◌, ℤ, pos, negsuc, Bool, true, false, List, [], ◌∷◌, ◌++◌, Some, refl, sym, ap, ◌∙◌, arith, ◌||◌, decimal, eqb, mod-eq_of_lt, get_or, drop}
 use Rattle.std.specs.Prelude.{codes}
 use Rattle.std.specs.Fmt.{signed_decimal}
 use Rattle.std.specs.List.{list_all, AllByRecursion}
@@ -9,18 +9,16 @@ use Rattle.std.proofs.lemmas.Int.{ints}
 use Rattle.std.proofs.lemmas.Nat.{mod_below}
 use lib.Signed.{mag}
 use Rattle.x64_syntax.specs.declared.places.Reg.{Reg}
-use Rattle.x64_syntax.specs.declared.operands.Opr.{Opr}
 use Rattle.x64_syntax.specs.declared.operands.Opr.TheVariants.{R, Imm, M}
 use Rattle.x64_syntax.specs.declared.instructions.AluOp.TheVariants.{Add}
-use Rattle.x64_syntax.specs.declared.instructions.Ins.{Ins}
 use Rattle.x64_syntax.specs.declared.instructions.Ins.TheVariants.{Mov, Alu}
 use Rattle.x64_syntax.specs.declared.items.Item.{Item}
 use Rattle.x64_syntax.specs.declared.items.Item.TheVariants as item
 use Rattle.x64_syntax.specs.Places.{reg_name, reg_of}
-use Rattle.x64_syntax.specs.Words.{is_name_byte, is_digit_byte, is_name_text, is_export_text}
+use Rattle.x64_syntax.specs.Words.{is_name_byte, is_digit_byte, is_export_text}
 use Rattle.x64_meaning.specs.Table.{word_of}
 use Rattle.term_core.specs.Value.{T}
-use Rattle.vale_driver.specs.Assembly.{reg_text, source_text, mnemonic, ins_text, item_text, items_text, text_of, IsWide, IsShort, IsSpelled, IsItem, IsProgram, ReadsAs}
+use Rattle.vale_driver.specs.Assembly.{item_text, items_text, IsWide, IsShort, IsItem, ReadsAs}
 use Rattle.vale_driver.proofs.Pieces.{stops, span_front, digits-decimal, reg_of-reg_name, reg_name-bytes}
 use Rattle.vale_driver.specs.Reading.{span}
 

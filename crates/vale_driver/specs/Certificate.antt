@@ -1,5 +1,5 @@
 -- The certificates that are read: one section with one `ring` step.
-use Rattle.std.specs.Prelude.{◌≡◌, ℕ, zero, suc, ◌+◌, ◌-◌, ◌<◌, ◌≤◌, ◌^◌, Bool, true, false, ◌&&◌, nat_le, nat_lt, ◌==◌, if◌then◌else◌, List, [], ◌∷◌, ◌++◌, length, Option, Some, None, decimal, codes}
+use Rattle.std.specs.Prelude.{◌≡◌, ℕ, zero, suc, ◌<◌, ◌≤◌, ◌^◌, Bool, false, nat_le, ◌==◌, if◌then◌else◌, List, [], ◌∷◌, ◌++◌, length, Option, Some, None, decimal, codes}
 use Rattle.std.specs.List.{AllByRecursion}
 use Rattle.vale_driver.specs.Reading.{◌>>=◌, given, strip, number_at}
 use Rattle.vale_driver.specs.Source.{last, ends}

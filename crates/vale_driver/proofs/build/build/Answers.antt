@@ -1,12 +1,10 @@
-use Rattle.std.proofs.Common.{◌≡◌, ap, sym, ◌∙◌, subst, true, false}
-use Rattle.std.specs.Prelude.{IfSome, List, ℕ}
+use Rattle.std.proofs.Common.{ap, sym, ◌∙◌}
 use Rattle.std.proofs.lemmas.Result.{err_from_is_err_and}
-use Rattle.vale_driver.specs.Certificate.{Pair, Proves}
+use Rattle.vale_driver.specs.Certificate.{Proves}
 use Rattle.vale_driver.specs.Ring.{ring_closes}
-use Rattle.vale_driver.specs.Build.{condition_hyps, condition_goal, lowered}
+use Rattle.vale_driver.specs.Build.{condition_hyps, condition_goal}
 use Rattle.vale_driver.specs.Assembly.{text_of}
 use Rattle.vale_driver.specs.Outcome.{step_refusal}
-use Rattle.vale_driver.specs.Stops.{CertificateStops}
 use Rattle.vale_driver.proofs.StopLaws.{certificate_stops, step_stops}
 use Rattle.vale_driver.proofs.ToldLaws.{same_cert}
 use Rattle.vale_driver.proofs.Built.{built}

@@ -1,4 +1,4 @@
-use Rattle.std.proofs.Common.{◌≡◌, Err, List, ap}
+use Rattle.std.proofs.Common.{Err, List, ap}
 use Rattle.vale_driver.specs.Certificate.{Pair, Proves}
 use Rattle.vale_driver.proofs.ToldLaws.{if_told}
 use Rattle.vale_driver.proofs.build.certificate_file.Goals as goal

@@ -1,4 +1,4 @@
-use Rattle.std.proofs.Common.{◌≡◌, Err, ap}
+use Rattle.std.proofs.Common.{Err, ap}
 use Rattle.vale_driver.specs.declared.straight.Straight.{Straight}
 use Rattle.vale_driver.specs.Source.{Spells}
 use Rattle.vale_driver.proofs.ToldLaws.{if_told}

@@ -1,4 +1,4 @@
-use Rattle.std.proofs.Common.{◌≡◌, ◌<◌, ◌≤◌, ap, sym, ◌∙◌, arith, length}
+use Rattle.std.proofs.Common.{◌<◌, ◌≤◌, arith, length}
 use Rattle.vale_driver.proofs.Steps.{pairs_end, pairs_limit, pairs_broken, pairs_more}
 use Rattle.vale_driver.proofs.certificate.more_pairs.Goals as goal
 

@@ -1,4 +1,4 @@
-use Rattle.std.proofs.Common.{◌≡◌, ◌++◌, length, ap, ◌∙◌}
+use Rattle.std.proofs.Common.{◌++◌, length, ap, ◌∙◌}
 use Rattle.term_core.specs.Terms.{trees}
 use Rattle.vale_driver.specs.Build.{hyps_from}
 use Rattle.vale_driver.proofs.ConditionLaws.{hyps_built, goal_built}

@@ -1,4 +1,4 @@
-use Rattle.std.proofs.Common.{◌≡◌, pos, get_or, ◌∙◌, SFits, w64, rules}
+use Rattle.std.proofs.Common.{pos, get_or, ◌∙◌, SFits, w64, rules}
 use Rattle.std.proofs.lemmas.Int.{to_z-of_z}
 use Rattle.vale_driver.proofs.ConditionLaws.{one_statement, all_statements, word_of_cast}
 use Rattle.vale_driver.proofs.condition.push_hypotheses.Goals as goal

@@ -1,6 +1,5 @@
 use Rattle.std.proofs.Common.{◌≡◌, decimal, ap, sym, ◌∙◌, Ok, rules}
 use Rattle.std.proofs.lemmas.Bool.{false≢true}
-use Rattle.std.specs.Str.{bytes_eq}
 use Rattle.std.proofs.lemmas.Slice.Eq.{bytes_eq-Decides}
 use Rattle.vale_driver.proofs.Numbers.{number_some, number_none, number_parsed, number_utf8}
 use Rattle.vale_driver.proofs.reading.number_from.Goals as goal

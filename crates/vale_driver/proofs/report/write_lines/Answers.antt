@@ -1,4 +1,4 @@
-use Rattle.std.proofs.Common.{◌≡◌, ◌≤◌, sym, ap, ◌∙◌, subst, [], get_or, drop, ◌+◌, take, take_all, arith}
+use Rattle.std.proofs.Common.{sym, ap, subst, take_all, arith}
 use Rattle.std.proofs.lemmas.Result.{err_from_is_err_and}
 use Rattle.vale_outside.specs.Outside.{Appends, AppendsFront}
 use Rattle.vale_driver.specs.Assembly.{joined}

@@ -1,4 +1,4 @@
-use Rattle.std.proofs.Common.{◌<◌, ◌≤◌, length, arith, rules}
+use Rattle.std.proofs.Common.{◌<◌, ◌≤◌, length, rules}
 use Rattle.term_core.specs.Value.{T}
 use Rattle.vale_driver.proofs.RingCode.{sum_done}
 use Rattle.vale_driver.proofs.ring.coefficient_in.Goals as goal

@@ -1,4 +1,4 @@
-use Rattle.std.proofs.Common.{◌≡◌, ◌∙◌}
+use Rattle.std.proofs.Common.{◌∙◌}
 use Rattle.vale_driver.proofs.RingCode.{no_sides, some_sides}
 use Rattle.vale_driver.proofs.ring.hypothesis_sides.Goals as goal
 

@@ -1,4 +1,4 @@
-use Rattle.std.proofs.Common.{◌≡◌, ◌<◌, ◌≤◌, ◌+◌, ◌++◌, arith, ap, ◌∙◌, get_or}
+use Rattle.std.proofs.Common.{◌≡◌, ◌<◌, ◌+◌, ◌++◌, arith, ap, ◌∙◌, get_or}
 use Rattle.term_core.specs.Terms.{tree}
 use Rattle.vale_driver.specs.Ring.{width_limit, width, times, difference}
 use Rattle.vale_driver.specs.RingCode.{seen_all}

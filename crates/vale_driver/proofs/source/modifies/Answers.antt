@@ -1,4 +1,4 @@
-use Rattle.std.proofs.Common.{◌≡◌, ap, sym, ◌∙◌}
+use Rattle.std.proofs.Common.{ap, sym, ◌∙◌}
 use Rattle.vale_driver.specs.Reading.{strip}
 use Rattle.vale_driver.specs.Source.{modifies_at}
 use Rattle.vale_driver.proofs.Steps.{then_some}

@@ -1,4 +1,4 @@
-use Rattle.std.proofs.Common.{◌≡◌, ◌≤◌, ap, sym, ◌∙◌, arith, rules, SFits, w64}
+use Rattle.std.proofs.Common.{◌≤◌, sym, arith, rules, SFits, w64}
 use Rattle.std.proofs.lemmas.Int.{to_z-of_z}
 use Rattle.vale_driver.proofs.Steps.{read_tail, read_nothing, read_more, read_limit}
 use Rattle.vale_driver.proofs.source.statements.Goals as goal
