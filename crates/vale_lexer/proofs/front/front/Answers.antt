@@ -1,0 +1,7 @@
+use Rattle.std.proofs.Common.{subst, sym, length}
+use Rattle.vale_lexer.specs.Lexes.{Fits}
+use Rattle.vale_lexer.proofs.Fronts.{front_fits}
+use Rattle.vale_lexer.proofs.front.front.Goals as goal
+
+pub returns-clause-fits : goal.returns-clause-fits
+returns-clause-fits c = rw c.front_of.ensures (front_fits c.args.bytes.now c.requires)

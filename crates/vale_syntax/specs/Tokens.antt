@@ -1,0 +1,140 @@
+-- The tokens of a text, or the first place without one.
+use Rattle.std.specs.Prelude.{ℕ, zero, suc, ◌+◌, ◌-◌, ◌*◌, ◌^◌, Bool, true, false, not, ◌&&◌, ◌||◌, ◌==◌, nat_lt, nat_le, List, [], ◌∷◌, length, take, drop, Option, Some, None, option_map, codes, if◌then◌else◌}
+use Rattle.std.specs.List.{find, prefix_len}
+use Rattle.std.specs.Str.{bytes_eq}
+use Rattle.x64_syntax.specs.Words.{is_digit_byte, is_name_byte}
+use Rattle.vale_syntax.specs.declared.token.TokenKind.{TokenKind}
+use Rattle.vale_syntax.specs.declared.token.TokenKind.TheVariants.{Name, Stamped, Int, Word, Wide, Mark}
+use Rattle.vale_syntax.specs.declared.token.NotAToken.{NotAToken}
+use Rattle.vale_syntax.specs.declared.token.NotAToken.TheVariants.{BadByte, NumberTooLarge, OpenComment}
+use Rattle.vale_syntax.specs.declared.token.Front.{Front}
+use Rattle.vale_syntax.specs.declared.token.Front.TheVariants.{Skipped, Taken, Stopped}
+use Rattle.vale_syntax.specs.declared.token.Token.{Token}
+
+-- the text begins with this one
+abbrev pub begins : List ℕ → List ℕ → Bool
+begins literal bytes = bytes_eq (take (length literal) bytes) literal
+
+abbrev pub is_blank : ℕ → Bool
+is_blank b = (b == 32) || (b == 10) || (b == 13) || (b == 9)
+
+abbrev pub is_in_line : ℕ → Bool
+is_in_line b = not (b == 10)
+
+-- as far as the end of the comment, from behind its beginning
+unfoldable pub close_len : List ℕ → Option ℕ
+close_len [] = None
+close_len (b ∷ bs) = if begins (codes "*/") (b ∷ bs) then Some 2 else option_map (λ n. n + 1) (close_len bs)
+
+abbrev pub comment : Option ℕ → Front
+comment None = Stopped OpenComment
+comment (Some n) = Skipped (n + 2)
+
+-- a lower-case letter or a digit
+abbrev pub is_stamp_byte : ℕ → Bool
+is_stamp_byte b = is_digit_byte b || (nat_le 97 b && nat_le b 122)
+
+-- the dot and the stamp behind a name: 0 where there is none
+abbrev pub stamp_len : List ℕ → ℕ
+stamp_len [] = 0
+stamp_len (b ∷ bs) = if (b == 46) && nat_lt 0 (prefix_len is_stamp_byte bs) then prefix_len is_stamp_byte bs + 1 else 0
+
+abbrev pub name_front : ℕ → ℕ → Front
+name_front n zero = Taken Name n
+name_front n (suc m) = Taken Stamped (n + suc m)
+
+abbrev pub named : List ℕ → Front
+named bytes = let n = prefix_len is_name_byte bytes in name_front n (stamp_len (drop n bytes))
+
+abbrev pub is_hex_byte : ℕ → Bool
+is_hex_byte b = is_digit_byte b || (nat_le 97 b && nat_le b 102) || (nat_le 65 b && nat_le b 70)
+
+abbrev pub digit : ℕ → ℕ
+digit b = if is_digit_byte b then b - 48 else if nat_le 97 b then b - 87 else b - 55
+
+-- the number that digits write behind one that was read
+abbrev pub number_after : ℕ → ℕ → List ℕ → ℕ
+number_after radix n [] = n
+number_after radix n (d ∷ ds) = number_after radix (n * radix + digit d) ds
+
+abbrev pub wide : ℕ → Option ℕ
+wide n = if nat_lt n (2 ^ 128) then Some n else None
+
+-- the number that digits write, where it is below 2^128
+abbrev pub value : ℕ → List ℕ → Option ℕ
+value radix digits = wide (number_after radix 0 digits)
+
+-- the number of a kind, with its length, or too large
+abbrev pub below : ℕ → (ℕ → TokenKind) → ℕ → Option ℕ → Front
+below limit kind len None = Stopped NumberTooLarge
+below limit kind len (Some n) = if nat_lt n limit then Taken (kind n) len else Stopped NumberTooLarge
+
+-- a number of some length, by what follows
+abbrev pub suffixed : Option ℕ → ℕ → List ℕ → Front
+suffixed n len [] = below (2 ^ 127) Int len n
+suffixed n len (b ∷ bs) =
+    if b == 119 then below (2 ^ 64) Word (len + 1) n
+    else if b == 118 then below (2 ^ 128) Wide (len + 1) n
+    else below (2 ^ 127) Int len n
+
+-- the hexadecimal digits behind `0x`
+abbrev pub hex_len : List ℕ → ℕ
+hex_len bytes = if begins (codes "0x") bytes then prefix_len is_hex_byte (drop 2 bytes) else 0
+
+abbrev pub number_of : ℕ → List ℕ → Front
+number_of zero bytes = let n = prefix_len is_digit_byte bytes in suffixed (value 10 (take n bytes)) n (drop n bytes)
+number_of (suc m) bytes = suffixed (value 16 (take (suc m) (drop 2 bytes))) (suc m + 2) (drop (suc m) (drop 2 bytes))
+
+abbrev pub number : List ℕ → Front
+number bytes = number_of (hex_len bytes) bytes
+
+-- the marks, longer ones first
+abbrev pub marks : List (List ℕ)
+marks =
+    codes "==>" ∷ codes ":=" ∷ codes "==" ∷ codes "!=" ∷ codes "<=" ∷ codes ">=" ∷ codes "&&" ∷ codes "||"
+    ∷ codes "(" ∷ codes ")" ∷ codes "[" ∷ codes "]" ∷ codes "{" ∷ codes "}" ∷ codes "," ∷ codes ";" ∷ codes ":" ∷ codes "="
+    ∷ codes "<" ∷ codes ">" ∷ codes "+" ∷ codes "-" ∷ codes "*" ∷ codes "!" ∷ codes "@" ∷ []
+
+abbrev pub mark_front : Option (List ℕ) → Front
+mark_front None = Stopped BadByte
+mark_front (Some mark) = Taken Mark (length mark)
+
+abbrev pub other : List ℕ → Front
+other bytes =
+    if begins (codes "//") bytes then Skipped (prefix_len is_in_line bytes)
+    else if begins (codes "/*") bytes then comment (close_len (drop 2 bytes))
+    else mark_front (find (λ mark. begins mark bytes) marks)
+
+-- what stands at the front: a blank or comment, else the longest token that begins there
+abbrev pub front : List ℕ → Front
+front [] = Stopped BadByte
+front (b ∷ bs) =
+    if is_blank b then Skipped 1
+    else if is_digit_byte b then number (b ∷ bs)
+    else if is_name_byte b then named (b ∷ bs)
+    else other (b ∷ bs)
+
+-- the tokens of a text, or the first place without one and its kind
+pub data Lexed : Type 0 where
+  All : List Token → Lexed
+  Nothing : NotAToken → ℕ → Lexed
+
+abbrev pub with_token : Token → Lexed → Lexed
+with_token t (All ts) = All (t ∷ ts)
+with_token t (Nothing why at) = Nothing why at
+
+-- a token of the first bytes, at an offset of a file
+abbrev pub token : ℕ → ℕ → TokenKind → List ℕ → Token
+token file at kind text = record { kind = kind; text = text; spot = record { file = file; at = at } }
+
+-- what stands at the front, and what is behind it: `go n` goes on where n more bytes belong to it
+abbrev pub on_front : ℕ → ℕ → List ℕ → Front → (ℕ → Lexed) → Lexed
+on_front file at bytes (Skipped n) go = go (n - 1)
+on_front file at bytes (Taken kind n) go = with_token (token file at kind (take n bytes)) (go (n - 1))
+on_front file at bytes (Stopped why) go = Nothing why at
+
+-- The tokens of the bytes of a file from an offset on, of which so many still belong to what was taken before.
+unfoldable pub lexed : ℕ → ℕ → ℕ → List ℕ → Lexed
+lexed file covered at [] = All []
+lexed file (suc n) at (b ∷ bs) = lexed file n (at + 1) bs
+lexed file zero at (b ∷ bs) = on_front file at (b ∷ bs) (front (b ∷ bs)) (λ n. lexed file n (at + 1) bs)

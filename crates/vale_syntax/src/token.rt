@@ -1,0 +1,51 @@
+// Tokens.
+
+use crate::spot::Spot;
+use x64_syntax::Text;
+
+/// What a token is. A number has its value.
+#[derive(Clone, Copy, Debug, PartialEq, Eq)]
+pub enum TokenKind {
+    /// A letter or `_`, then letters, digits and `_`.
+    Name,
+    /// A name, a dot, and lower-case letters or digits, as `rax.0`.
+    Stamped,
+    /// A whole number below 2^127.
+    Int(u128),
+    /// A word of 64 bits, as `1w`.
+    Word(u64),
+    /// A word of 128 bits, as `1v`.
+    Wide(u128),
+    /// One of the marks, as `:=`.
+    Mark,
+}
+
+/// A token: what it is, its bytes, and where it begins.
+#[derive(Debug, Drop, PartialEq, Eq)]
+pub struct Token {
+    pub kind: TokenKind,
+    pub text: Text,
+    pub spot: Spot,
+}
+
+/// Why no token begins at a place.
+#[derive(Clone, Copy, Debug, PartialEq, Eq)]
+pub enum NotAToken {
+    /// No token begins with the byte.
+    BadByte,
+    /// The number is above the limit of its kind.
+    NumberTooLarge,
+    /// The comment that `/*` starts doesn't end.
+    OpenComment,
+}
+
+/// What stands at the front of a text that isn't empty, and how many bytes it has.
+#[derive(Clone, Copy, Debug, PartialEq, Eq)]
+pub enum Front {
+    /// A blank or a comment.
+    Skipped(usize),
+    /// A token: the longest that begins here.
+    Taken(TokenKind, usize),
+    /// Nothing that a text may have here.
+    Stopped(NotAToken),
+}
