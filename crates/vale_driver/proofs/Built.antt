@@ -10,7 +10,7 @@ use Rattle.x64_syntax.specs.declared.items.Item.TheVariants as item
 use Rattle.x64_syntax.specs.Places.{reg_number}
 use Rattle.x64_meaning.specs.Contract.{Meets}
 use Rattle.x64_meaning.specs.Condition.{is_plain, unwritten, StraightFits}
-use Rattle.x64_meaning.proofs.Straight.{straight_meets}
+use Rattle.x64_meaning.proofs.Straight.{straight_meets, straight_runs}
 use Rattle.vale_driver.specs.declared.straight.Straight.{Straight}
 use Rattle.vale_driver.specs.Source.{IsStraight, FitsAmount, Spells}
 use Rattle.vale_driver.specs.Certificate.{Pair, Proves}
@@ -79,4 +79,5 @@ built t p ps text ok source cert closes e =
       reads = reads;
       reads_only = λ items h. reads_once text items (lowered p) h reads;
       meets = built_meets p ps ok closes;
+      same_runs = straight_runs p.export (instructions p) (contract_of p) (fits p ps ok closes);
     }

@@ -2,7 +2,7 @@
 use Rattle.std.specs.Prelude.{◌≡◌, ℕ, Bool, true, false, not, ◌&&◌, ◌==◌, List, [], ◌∷◌, ◌++◌, Option, Some, None, ◌⊎◌, IfSome, decimal, codes, if◌then◌else◌}
 use Rattle.std.specs.Str.{bytes_eq}
 use Rattle.x64_syntax.specs.declared.items.Item.{Item}
-use Rattle.x64_meaning.specs.Contract.{Meets}
+use Rattle.x64_meaning.specs.Contract.{Meets, SameRuns}
 use Rattle.vale_outside.specs.Outside.{Appends, AppendsFront}
 use Rattle.vale_driver.specs.declared.status.Refusal.{Refusal}
 use Rattle.vale_driver.specs.declared.straight.Straight.{Straight}
@@ -99,7 +99,8 @@ IsRefused b t r = SourceRefused b t r ⊎ (CertificateRefused b t r ⊎ StepRefu
 
 -- What a finished build means. Its text reads as exactly the lowered code of its source's export, and as nothing else.
 -- That export, started in any state that meets what its contract asks, ends without a fault, meets what the contract
--- promises and changes only declared places.
+-- promises and changes only declared places. Of any two such starts that agree on what is public, the runs take as many
+-- steps and make the same observations.
 pub record IsBuilt (t : Told) (text : List ℕ) : Type 0 where
   pub program : Straight
   pub steps : List Pair
@@ -109,6 +110,7 @@ pub record IsBuilt (t : Told) (text : List ℕ) : Type 0 where
   pub reads : ReadsAs text (lowered program)
   pub reads_only : (items : List Item) → ReadsAs text items → items ≡ lowered program
   pub meets : Meets (contract_of program) (lowered program) 0
+  pub same_runs : SameRuns (contract_of program) (lowered program) 0
 
 -- what was told stays the same
 abbrev pub Same : Option (List ℕ) → Option (List ℕ) → Type 0

@@ -1,15 +1,12 @@
 -- What stands at the front has at least one byte, and no more than there are.
-use Rattle.std.proofs.Common.{◌≡◌, ℕ, zero, suc, ◌+◌, ◌-◌, ◌*◌, ◌^◌, ◌≤◌, ◌<◌, Bool, true, false, not, ◌&&◌, ◌==◌, nat_lt, List, [], ◌∷◌, ◌++◌, length, take, drop, Option, Some, None, refl, sym, ap, ◌∙◌, subst, arith, option_map, length-drop, length-take, min, cond, ◌||◌, codes, get_or}
+use Rattle.std.proofs.Common.{◌≡◌, ℕ, zero, suc, ◌+◌, ◌-◌, ◌≤◌, ◌<◌, Bool, true, false, ◌&&◌, ◌==◌, nat_lt, List, [], ◌∷◌, length, take, drop, Option, Some, None, refl, sym, ap, subst, arith, option_map, length-drop, length-take, cond, codes, get_or}
 use Rattle.std.specs.List.{find, prefix_len, AllByRecursion}
-use Rattle.std.specs.Str.{bytes_eq}
 use Rattle.std.proofs.lemmas.List.Sums.{prefix_len-le-length}
 use Rattle.std.proofs.lemmas.Slice.Eq.{bytes_eq-Decides}
 use Rattle.x64_syntax.specs.Words.{is_name_byte, is_digit_byte}
 use Rattle.vale_syntax.specs.declared.token.TokenKind.{TokenKind}
-use Rattle.vale_syntax.specs.declared.token.TokenKind.TheVariants as kind
 use Rattle.vale_syntax.specs.declared.token.Front.{Front}
-use Rattle.vale_syntax.specs.declared.token.Front.TheVariants.{Skipped, Taken, Stopped}
-use Rattle.vale_syntax.specs.Tokens.{begins, is_blank, is_in_line, close_len, comment, is_stamp_byte, stamp_len, name_front, named, is_hex_byte, wide, value, below, suffixed, hex_len, number_of, number, marks, mark_front, other, front}
+use Rattle.vale_syntax.specs.Tokens.{begins, is_blank, is_in_line, close_len, comment, is_stamp_byte, stamp_len, name_front, named, is_hex_byte, value, below, suffixed, hex_len, number_of, number, marks, mark_front, other, front}
 use Rattle.vale_lexer.specs.Lexes.{Fits}
 
 -- what begins a text isn't longer
@@ -35,6 +32,7 @@ close_short (b ∷ bs) n h = by_test (begins (codes "*/") (b ∷ bs)) refl h (λ
     one_more : (o : Option ℕ) → option_map (λ k. k + 1) o ≡ Some n → ((m : ℕ) → o ≡ Some m → m ≤ length bs) → n ≤ suc (length bs)
     one_more None e f = absurd cc
     one_more (Some m) e f = let short = f m refl in let same : m + 1 ≡ n = some_is _ _ e in omega (arith, short, same)
+
     by_test : (t : Bool) → begins (codes "*/") (b ∷ bs) ≡ t → cond t (Some 2) (option_map (λ k. k + 1) (close_len bs)) ≡ Some n → ((m : ℕ) → close_len bs ≡ Some m → m ≤ length bs) → n ≤ suc (length bs)
     by_test true e f g = let long = begins_short (codes "*/") (b ∷ bs) e in let same : 2 ≡ n = some_is _ _ f in omega (arith, long, same)
     by_test false e f g = one_more (close_len bs) f g
@@ -91,16 +89,16 @@ number_fits b bs h = by_len (hex_len (b ∷ bs)) refl
   where
     by_len : (n : ℕ) → hex_len (b ∷ bs) ≡ n → Fits (length (b ∷ bs)) (number_of n (b ∷ bs))
     by_len zero e =
-      let n = prefix_len is_digit_byte (b ∷ bs) in
-      let some = run_some is_digit_byte b bs h in
-      let short = prefix_len-le-length is_digit_byte (b ∷ bs) in
-      let left = length-drop n (b ∷ bs) in
-      suffixed_fits (value 10 (take n (b ∷ bs))) n (length (b ∷ bs)) (drop n (b ∷ bs)) some (omega (arith, short, left))
+        let n = prefix_len is_digit_byte (b ∷ bs) in
+        let some = run_some is_digit_byte b bs h in
+        let short = prefix_len-le-length is_digit_byte (b ∷ bs) in
+        let left = length-drop n (b ∷ bs) in
+        suffixed_fits (value 10 (take n (b ∷ bs))) n (length (b ∷ bs)) (drop n (b ∷ bs)) some (omega (arith, short, left))
     by_len (suc m) e =
-      let short = hex_short (b ∷ bs) m e in
-      let left = length-drop 2 (b ∷ bs) in
-      let rest = length-drop (suc m) (drop 2 (b ∷ bs)) in
-      suffixed_fits (value 16 (take (suc m) (drop 2 (b ∷ bs)))) (suc m + 2) (length (b ∷ bs)) (drop (suc m) (drop 2 (b ∷ bs))) (omega arith) (omega (arith, short, left, rest))
+        let short = hex_short (b ∷ bs) m e in
+        let left = length-drop 2 (b ∷ bs) in
+        let rest = length-drop (suc m) (drop 2 (b ∷ bs)) in
+        suffixed_fits (value 16 (take (suc m) (drop 2 (b ∷ bs)))) (suc m + 2) (length (b ∷ bs)) (drop (suc m) (drop 2 (b ∷ bs))) (omega arith) (omega (arith, short, left, rest))
 
 found_begins : (bytes : List ℕ) (ms : List (List ℕ)) (m : List ℕ) → find (λ mark. begins mark bytes) ms ≡ Some m → begins m bytes ≡ true
 found_begins bytes [] m h = absurd cc
@@ -108,6 +106,7 @@ found_begins bytes (k ∷ ms) m h = by_test (begins k bytes) refl h (found_begin
   where
     same : (k m : List ℕ) → Some k ≡ Some m → k ≡ m
     same k m e = cc
+
     by_test : (t : Bool) → begins k bytes ≡ t → cond t (Some k) (find (λ mark. begins mark bytes) ms) ≡ Some m → (find (λ mark. begins mark bytes) ms ≡ Some m → begins m bytes ≡ true) → begins m bytes ≡ true
     by_test true e f g = subst (λ x. begins x bytes ≡ true) (same k m f) e
     by_test false e f g = g f
@@ -118,6 +117,7 @@ found_some bytes (k ∷ ms) m all h = by_test (begins k bytes) h (found_some byt
   where
     same : (k m : List ℕ) → Some k ≡ Some m → k ≡ m
     same k m e = cc
+
     by_test : (t : Bool) → cond t (Some k) (find (λ mark. begins mark bytes) ms) ≡ Some m → (find (λ mark. begins mark bytes) ms ≡ Some m → 1 ≤ length m) → 1 ≤ length m
     by_test true f g = subst (λ x. 1 ≤ length x) (same k m f) all.0
     by_test false f g = g f
@@ -136,9 +136,9 @@ comment_fits bytes long = by_close (close_len (drop 2 bytes)) refl
     by_close : (o : Option ℕ) → close_len (drop 2 bytes) ≡ o → Fits (length bytes) (comment o)
     by_close None e = tt
     by_close (Some n) e =
-      let short = close_short (drop 2 bytes) n e in
-      let left = length-drop 2 bytes in
-      (omega arith, omega (arith, short, left))
+        let short = close_short (drop 2 bytes) n e in
+        let left = length-drop 2 bytes in
+        (omega arith, omega (arith, short, left))
 
 marks_some : (bytes : List ℕ) (m : List ℕ) → find (λ mark. begins mark bytes) marks ≡ Some m → 1 ≤ length m
 marks_some bytes m h = found_some bytes marks m (some_all) h
@@ -156,14 +156,14 @@ line_some b bs h =
 other_fits : (b : ℕ) (bs : List ℕ) → Fits (length (b ∷ bs)) (other (b ∷ bs))
 other_fits b bs =
     choice_fits (begins (codes "//") (b ∷ bs)) (length (b ∷ bs)) _ _
-      (λ e. (line_some b bs e, prefix_len-le-length is_in_line (b ∷ bs)))
-      (λ e. choice_fits (begins (codes "/*") (b ∷ bs)) (length (b ∷ bs)) _ _
-        (λ f. comment_fits (b ∷ bs) (begins_short (codes "/*") (b ∷ bs) f))
-        (λ f. mark_fits (b ∷ bs) marks (marks_some (b ∷ bs))))
+    (λ e. (line_some b bs e, prefix_len-le-length is_in_line (b ∷ bs)))
+    (λ e. choice_fits (begins (codes "/*") (b ∷ bs)) (length (b ∷ bs)) _ _
+    (λ f. comment_fits (b ∷ bs) (begins_short (codes "/*") (b ∷ bs) f))
+    (λ f. mark_fits (b ∷ bs) marks (marks_some (b ∷ bs))))
 
 pub front_fits : (bytes : List ℕ) → 0 < length bytes → Fits (length bytes) (front bytes)
 front_fits [] h = tt
 front_fits (b ∷ bs) h =
     choice_fits (is_blank b) (length (b ∷ bs)) _ _ (λ e. (omega arith, omega arith))
-      (λ e. choice_fits (is_digit_byte b) (length (b ∷ bs)) _ _ (λ f. number_fits b bs f)
-        (λ f. choice_fits (is_name_byte b) (length (b ∷ bs)) _ _ (λ k. named_fits b bs k) (λ k. other_fits b bs)))
+    (λ e. choice_fits (is_digit_byte b) (length (b ∷ bs)) _ _ (λ f. number_fits b bs f)
+    (λ f. choice_fits (is_name_byte b) (length (b ∷ bs)) _ _ (λ k. named_fits b bs k) (λ k. other_fits b bs)))

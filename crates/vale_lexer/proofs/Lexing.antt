@@ -4,7 +4,6 @@ use native.Mathlib.Numerals.{unary_clauses}
 use Rattle.vale_syntax.specs.declared.token.Token.{Token}
 use Rattle.vale_syntax.specs.declared.token.TokenKind.{TokenKind}
 use Rattle.vale_syntax.specs.declared.token.NotAToken.{NotAToken}
-use Rattle.vale_syntax.specs.declared.token.Front.{Front}
 use Rattle.vale_syntax.specs.declared.token.Front.TheVariants.{Skipped, Taken, Stopped}
 use Rattle.vale_lexer.specs.Lexes.{in_front, FaultOf, fault_of}
 use Rattle.vale_syntax.specs.declared.token.NotAToken.TheVariants as not

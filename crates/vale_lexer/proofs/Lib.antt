@@ -1,3 +1,4 @@
 pub mod Lexing
 pub mod Fronts
 pub mod Loops
+pub mod Marks

@@ -1,13 +1,8 @@
 -- What the loops keep.
-use Rattle.std.proofs.Common.{◌≡◌, ℕ, zero, suc, ◌+◌, ◌-◌, ◌*◌, ◌^◌, ◌≤◌, ◌<◌, Bool, true, false, cond, List, [], ◌∷◌, length, take, drop, get_or, drop-cons, Option, Some, None, refl, sym, ap, ◌∙◌, subst, arith, option_map, codes, map, nat_lt, Bor}
+use Rattle.std.proofs.Common.{◌≡◌, ℕ, zero, suc, ◌+◌, ◌*◌, ◌^◌, ◌≤◌, ◌<◌, Bool, true, false, cond, List, [], ◌∷◌, length, take, drop, get_or, drop-cons, Option, Some, None, refl, sym, ap, ◌∙◌, subst, arith, option_map, codes, nat_lt}
 use native.Mathlib.Numerals.{unary_clauses}
-use Rattle.std.specs.List.{find}
 use Rattle.std.proofs.lemmas.Bool.{le-ltb, lt-ltb, ltb-false}
-use Rattle.std.specs.Str.{bytes_eq}
-use Rattle.vale_syntax.specs.declared.token.TokenKind.TheVariants as kind
-use Rattle.vale_syntax.specs.declared.token.Front.{Front}
-use Rattle.vale_syntax.specs.declared.token.Front.TheVariants.{Skipped, Taken, Stopped}
-use Rattle.vale_syntax.specs.Tokens.{begins, close_len, mark_front, number_after, digit, wide, value, hex_len, number_of, number, suffixed}
+use Rattle.vale_syntax.specs.Tokens.{begins, close_len, number_after, digit, wide, value, hex_len, number_of, number, suffixed}
 
 -- The end of a comment.
 closes : (bytes : List ℕ) → begins (codes "*/") bytes ≡ true → close_len bytes ≡ Some 2
@@ -60,6 +55,7 @@ close_next i bytes h e =
   where
     sums : (n i : ℕ) → n + 1 + i ≡ n + (i + 1)
     sums n i = omega arith
+
     twice : (o : Option ℕ) → option_map (λ n. n + i) (option_map (λ n. n + 1) o) ≡ option_map (λ n. n + (i + 1)) o
     twice None = refl
     twice (Some n) = ap Some (sums n i)
@@ -77,6 +73,7 @@ number_grows radix n (d ∷ ds) h =
   where
     times_suc : (n r : ℕ) → n * suc r ≡ n * r + n
     times_suc n r = simp unary_clauses refl
+
     grows : (n radix d : ℕ) → 1 ≤ radix → n ≤ n * radix + d
     grows n zero d h = omega arith
     grows n (suc r) d h = let times = times_suc n r in omega (arith, times)
@@ -97,6 +94,7 @@ value_none radix n digits rest h e f =
         at_test : (t : Bool) → nat_lt n (2 ^ 128) ≡ t → cond t (Some n) None ≡ None → 2 ^ 128 ≤ n
         at_test true e f = absurd cc
         at_test false e f = ltb-false _ _ e
+
     by_test : (t : Bool) → t ≡ false → None ≡ cond t (Some (number_after radix 0 digits)) None
     by_test true e = absurd cc
     by_test false e = refl

@@ -3,7 +3,9 @@
 
 mod class;
 mod front;
+mod laws;
 mod number;
 mod scan;
 
+pub use laws::longest_mark;
 pub use scan::{LexFault, tokens};

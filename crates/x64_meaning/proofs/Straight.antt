@@ -23,7 +23,7 @@ use Rattle.x64_meaning.specs.State.{State, IsState, place_sort, read, reg}
 use Rattle.x64_meaning.specs.Exp.{Exp, exp_value, exp_term, among}
 use Rattle.x64_meaning.specs.Table.{Equation, equations, writes, reads, loads_from, in_order}
 use Rattle.x64_meaning.specs.Run.{after, does, Done, Way, start, stepped, Ended, run, act, after_does}
-use Rattle.x64_meaning.specs.Contract.{Contract, Worth, Post, Frame, Meets}
+use Rattle.x64_meaning.specs.Contract.{Contract, Worth, Post, Frame, Meets, SameRuns}
 use Rattle.x64_meaning.specs.Condition.{Versions, version, version_name, next_versions, hypothesis, hypotheses, end_versions, first_versions, straight_hyps, straight_goal, is_plain, unwritten, straight_items, StraightFits}
 use Rattle.term_core.proofs.Values.{val_eq_same}
 use Rattle.x64_meaning.proofs.Reading.{read-sorted}
@@ -239,3 +239,36 @@ straight_meets name is c fits s ok pre =
     let post : Post c s (end_of s is) = record { holds = holds; rsp = rsp } in
     let frame : Frame c s (end_of s is) = record { blocks = blocks_same is s; others = others } in
     (suc r.0, r.1, entry ∙ r.2, subst (Post c s) (sym same) post, subst (Frame c s) (sym same) frame)
+
+ended_is : (v w : Way) → Ended v ≡ Ended w → v ≡ w
+ended_is v w h = cc
+
+-- what is alike of two runs: the steps that they made, and what was seen
+record Alike (v w : Way) : Type 0 where
+  steps : w.steps ≡ v.steps
+  seen : w.seen ≡ v.seen
+
+one_more : (v w : Way) (s t : State) → Alike v w → Alike (stepped v s []) (stepped w t [])
+one_more v w s t a = record { steps = ap (λ n. n + 1) a.steps; seen = ap (λ l. l ++ []) a.seen }
+
+alike_runs : (items : List Item) (is : List Ins) (at n : ℕ) (v w v' : Way) → list_all is_plain is ≡ true → HasAt items at (map item.Ins is ++ item.Ret ∷ []) → Alike v w → run items n at v ≡ Ended v' → (w' : Way) × (run items n at w ≡ Ended w') × Alike v' w'
+alike_runs items is at zero v w v' plain has a h = absurd cc
+alike_runs items [] at (suc n) v w v' plain has a h =
+    let ends : (u : Way) → run items (suc n) at u ≡ Ended (stepped u u.state []) = λ u. ap (λ o. act items o (run items n) at u) has.0 in
+    let same = ended_is _ _ (sym (ends v) ∙ h) in
+    (stepped w w.state [], ends w, subst (λ u. Alike u (stepped w w.state [])) same (one_more v w v.state w.state a))
+alike_runs items (i ∷ is) at (suc n) v w v' plain has a h =
+    let p = and_parts (is_plain i) (list_all is_plain is) plain in
+    let goes_on : (u : Way) → run items (suc n) at u ≡ run items n (at + 1) (stepped u (next u.state i) []) = λ u.
+    ap (λ o. act items o (run items n) at u) has.0 ∙ ap (λ d. after_does d (run items n) at u) (plain_does i u.state p.0) in
+    let rest = alike_runs items is (at + 1) n (stepped v (next v.state i) []) (stepped w (next w.state i) []) v' p.1 has.1 (one_more v w (next v.state i) (next w.state i) a) (sym (goes_on v) ∙ h) in
+    (rest.0, goes_on w ∙ rest.1, rest.2)
+
+pub straight_runs : (name : List ℕ) (is : List Ins) (c : Contract) → StraightFits is c → SameRuns c (straight_items name is) 0
+straight_runs name is c fits s t oks okt pres pret agree zero v h = absurd cc
+straight_runs name is c fits s t oks okt pres pret agree (suc n) v h =
+    let items = straight_items name is in
+    let has = has_all (map item.Ins is ++ item.Ret ∷ []) (item.Entry name ∷ []) in
+    let begun : Alike (stepped (start s) s []) (stepped (start t) t []) = record { steps = refl; seen = refl } in
+    let r = alike_runs items is 1 n (stepped (start s) s []) (stepped (start t) t []) v fits.plain has begun h in
+    (r.0, r.1, r.2.steps, r.2.seen)

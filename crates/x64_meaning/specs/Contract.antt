@@ -45,3 +45,15 @@ abbrev pub Meets : Contract → List Item → ℕ → Type 0
 Meets c items pos =
     (s : State) → IsState s → Pre c s →
     (n : ℕ) × (w : Way) × (run items n pos (start s) ≡ Ended w) × Post c s w.state × Frame c s w.state
+
+-- Two starts agree on what is public: on each place that is read.
+pub record Agree (c : Contract) (s t : State) : Type 0 where
+  pub places : (p : Place) → c.reads p ≡ true → read s p ≡ read t p
+
+-- Of two starts that agree, where a run from the one ends, so does one from the other, after as many steps and with the
+-- same observations.
+abbrev pub SameRuns : Contract → List Item → ℕ → Type 0
+SameRuns c items pos =
+    (s t : State) → IsState s → IsState t → Pre c s → Pre c t → Agree c s t →
+    (n : ℕ) (v : Way) → run items n pos (start s) ≡ Ended v →
+    (w : Way) × (run items n pos (start t) ≡ Ended w) × (w.steps ≡ v.steps) × (w.seen ≡ v.seen)

@@ -1,4 +1,4 @@
-use Rattle.std.proofs.Common.{◌≡◌, sym, ◌∙◌, ap, codes}
+use Rattle.std.proofs.Common.{sym, ◌∙◌, ap, codes}
 use Rattle.vale_syntax.specs.Tokens.{begins}
 use Rattle.vale_lexer.proofs.Loops.{close_here, close_next, close_end}
 use Rattle.vale_lexer.proofs.front.close_len.Goals as goal

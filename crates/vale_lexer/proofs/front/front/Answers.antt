@@ -1,5 +1,3 @@
-use Rattle.std.proofs.Common.{subst, sym, length}
-use Rattle.vale_lexer.specs.Lexes.{Fits}
 use Rattle.vale_lexer.proofs.Fronts.{front_fits}
 use Rattle.vale_lexer.proofs.front.front.Goals as goal
 

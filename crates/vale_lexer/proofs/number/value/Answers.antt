@@ -1,4 +1,4 @@
-use Rattle.std.proofs.Common.{◌≡◌, ◌+◌, ◌*◌, sym, ◌∙◌, rules, get_or, drop, suc, ◌<◌, ◌^◌}
+use Rattle.std.proofs.Common.{◌+◌, ◌*◌, sym, ◌∙◌, get_or, drop, suc}
 use Rattle.vale_syntax.specs.Tokens.{digit}
 use Rattle.vale_lexer.proofs.Loops.{value_none, value_some, number_step, number_end}
 use Rattle.vale_lexer.proofs.number.value.Goals as goal

@@ -6,5 +6,5 @@ use Rattle.vale_lexer.proofs.number.value.Given as goal
 abbrev pub invariant-loop-byte : goal.invariant-loop-byte
 invariant-loop-byte l = record {
   whole : number_after l.radix l.value (drop l.byte-index l.digits) ≡ number_after l.radix 0 l.digits;
-  fits : l.value < 2 ^ 128
+  fits : l.value < 2 ^ 128;
 }

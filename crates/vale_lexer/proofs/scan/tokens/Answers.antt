@@ -1,4 +1,4 @@
-use Rattle.std.proofs.Common.{◌≡◌, sym, ◌∙◌, ◌≤◌, length, arith}
+use Rattle.std.proofs.Common.{sym, ◌∙◌, ◌≤◌, length, arith}
 use Rattle.std.proofs.lemmas.Bool.{eqb-true}
 use Rattle.vale_lexer.proofs.Lexing.{lexed_all}
 use Rattle.vale_lexer.proofs.scan.tokens.Goals as goal

@@ -1,4 +1,4 @@
-use Rattle.std.proofs.Common.{◌≡◌, ◌+◌, ◌<◌, ◌^◌, length}
+use Rattle.std.proofs.Common.{◌≡◌, ◌+◌, length}
 use Rattle.vale_syntax.specs.Tokens.{lexed}
 use Rattle.vale_lexer.specs.Lexes.{in_front}
 use Rattle.vale_lexer.proofs.scan.tokens.Given as goal
@@ -7,7 +7,7 @@ use Rattle.vale_lexer.proofs.scan.tokens.Given as goal
 abbrev pub invariant-loop-rest : goal.invariant-loop-rest
 invariant-loop-rest l = record {
   whole : in_front l.tokens.items (lexed l.file 0 l.at l.rest) ≡ lexed l.file 0 0 l.bytes;
-  total : l.at + length l.rest ≡ length l.bytes
+  total : l.at + length l.rest ≡ length l.bytes;
 }
 
 abbrev pub decreases-loop-rest : goal.decreases-loop-rest
