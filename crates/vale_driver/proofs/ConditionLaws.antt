@@ -1,5 +1,6 @@
 -- The condition that the checker builds is that of the source.
 use Rattle.std.proofs.Common.{◌≡◌, ℕ, suc, ◌+◌, ◌-◌, ◌<◌, ◌≤◌, ℤ, pos, negsuc, List, [], ◌∷◌, ◌++◌, length, drop, map, refl, sym, ap, ◌∙◌, arith, append_assoc, get_or, drop-cons, mod-eq_of_lt, SFits, w64}
+use Rattle.std.proofs.lemmas.List.{append-nil}
 use Rattle.std.specs.Int.{cast_unsigned}
 use Rattle.std.proofs.lemmas.Int.{ints}
 use Rattle.x64_syntax.specs.declared.places.Reg.{Reg as GeneralReg}
@@ -84,11 +85,7 @@ one_statement old r zs i new whole n lt word h e =
     ∙ ap (λ xs. old ++ hyps_from r xs i) (sym split)
     ∙ h
 
-append_nil : {A : Type 0} (xs : List A) → xs ++ [] ≡ xs
-append_nil [] = refl
-append_nil (x ∷ xs) = ap (λ ys. x ∷ ys) (append_nil xs)
-
 -- after the last statement
 pub all_statements : (new : List Tm) (r : GeneralReg) (zs : List ℤ) (i : ℕ) (whole : List Tm) → length zs ≤ i → new ++ hyps_from r (drop i zs) i ≡ whole → new ≡ whole
 unfolding hyps_from
-all_statements new r zs i whole le h = sym (append_nil new) ∙ ap (λ xs. new ++ hyps_from r xs i) (sym (drop_all i zs le)) ∙ h
+all_statements new r zs i whole le h = sym (append-nil new) ∙ ap (λ xs. new ++ hyps_from r xs i) (sym (drop_all i zs le)) ∙ h

@@ -4,7 +4,7 @@ use Rattle.std.specs.Prelude.{codes, ◌==◌, ◌≤ℤ◌, ◌<ℤ◌}
 use Rattle.std.specs.Fmt.{signed_decimal}
 use Rattle.std.specs.List.{prefix_len, list_all, find}
 use Rattle.std.specs.Str.{bytes_eq}
-use Rattle.std.proofs.lemmas.Bool.{and_parts, and_from, false≢true, ltb-true, leb-true, lt-ltb, le-leb, ne_eqb}
+use Rattle.std.proofs.lemmas.Bool.{not-true, and_parts, and_from, false≢true, ltb-true, leb-true, lt-ltb, le-leb, ne_eqb}
 use Rattle.std.proofs.lemmas.Int.{ints}
 use Rattle.std.proofs.lemmas.Slice.Eq.{bytes_eq-Decides}
 use Rattle.std.proofs.lemmas.Fmt.{decimal_by_steps, decimal_nonempty}
@@ -138,10 +138,6 @@ rest_same {A = A} x y r t h = ap (λ o. part o) h
     part None = r
     part (Some z) = z.1
 
-pub not_true : (b : Bool) → not b ≡ true → b ≡ false
-not_true true h = absurd (false≢true h)
-not_true false h = refl
-
 pub not_false : (b : Bool) → b ≡ false → not b ≡ true
 not_false true h = absurd (false≢true (sym h))
 not_false false h = refl
@@ -202,7 +198,7 @@ register_is bytes rest r h =
     let second = ap (λ (x : Reg × List ℕ). x.1) g.1 in
     let name = find_name ALL_REGS s.0 b.0 b.1 in (
       span_whole is_name_byte bytes ∙ ap (λ x. x ++ s.1) (sym name) ∙ ap (λ q. reg_name q ++ s.1) first ∙ ap (λ x. reg_name r ++ x) second,
-      subst (λ q. (reg_number q == 7) ≡ false) first (not_true _ g.0),
+      subst (λ q. (reg_number q == 7) ≡ false) first (not-true _ g.0),
     )
 
 pub register_takes : (r : Reg) (rest : List ℕ) → (reg_number r == 7) ≡ false → stops is_name_byte rest ≡ true → register_at (reg_name r ++ rest) ≡ Some (r, rest)

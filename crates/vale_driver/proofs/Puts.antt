@@ -1,18 +1,15 @@
 -- Lines that are put, one after another.
 use Rattle.std.proofs.Common.{◌≡◌, ℕ, zero, suc, ◌+◌, ◌-◌, ◌≤◌, ◌<◌, min, List, [], ◌∷◌, ◌++◌, length, take, drop, Option, Some, None, refl, sym, ap, ◌∙◌, arith, append_assoc, length-append, length-take, get_or}
+use Rattle.std.proofs.lemmas.List.{append-nil}
 use Rattle.std.proofs.Math.Seq.{take-append-add}
 use Rattle.std.proofs.lemmas.List.{take-append-le}
 use native.Mathlib.Numerals.{unary_clauses}
 use Rattle.vale_outside.specs.Outside.{Appends, AppendsFront}
 use Rattle.vale_driver.specs.Assembly.{joined}
 
-append_nil : {A : Type 0} (xs : List A) → xs ++ [] ≡ xs
-append_nil [] = refl
-append_nil (x ∷ xs) = ap (λ ys. x ∷ ys) (append_nil xs)
-
 pub appends_none : (told : Option (List ℕ)) → Appends told told []
 appends_none None = refl
-appends_none (Some told) = ap Some (sym (append_nil told))
+appends_none (Some told) = ap Some (sym (append-nil told))
 
 pub appends_next : (old mid new : Option (List ℕ)) (x y : List ℕ) → Appends old mid x → Appends mid new y → Appends old new (x ++ y)
 appends_next None mid new x y h k = rw h at k
@@ -40,7 +37,7 @@ n≮0 h = omega arith
 
 take_one : (n : ℕ) (ls : List (List ℕ)) (d : List ℕ) → n < length ls → joined (take (suc n) ls) ≡ joined (take n ls) ++ get_or ls n d
 take_one n [] d h = absurd (n≮0 h)
-take_one zero (l ∷ ls) d h = append_nil l
+take_one zero (l ∷ ls) d h = append-nil l
 take_one (suc n) (l ∷ ls) d h = ap (λ x. l ++ x) (take_one n ls d (omega arith)) ∙ sym (append_assoc l (joined (take n ls)) (get_or ls n d))
 
 pub joined_take : (n : ℕ) (ls : List (List ℕ)) (l : List ℕ) → n < length ls → l ≡ get_or ls n l → joined (take (n + 1) ls) ≡ joined (take n ls) ++ l

@@ -3,7 +3,7 @@ use Rattle.std.proofs.Common.{◌≡◌, ℕ, zero, suc, ◌<◌, ◌≤◌, ◌
 use Rattle.std.specs.Prelude.{codes, ◌==◌, nat_le}
 use Rattle.std.specs.Fmt.{signed_decimal}
 use Rattle.std.specs.List.{list_all, AllByRecursion}
-use Rattle.std.proofs.lemmas.Bool.{and_parts, and_from, false≢true, leb-true, le-leb, eqb-true}
+use Rattle.std.proofs.lemmas.Bool.{not-true, and_parts, and_from, false≢true, leb-true, le-leb, eqb-true}
 use Rattle.x64_syntax.specs.declared.places.Reg.{Reg}
 use Rattle.x64_syntax.specs.Places.{reg_name, reg_number}
 use Rattle.x64_syntax.specs.Words.{is_name_byte, is_name_text, is_reserved_name, is_export_text}
@@ -11,7 +11,7 @@ use Rattle.vale_driver.specs.declared.straight.Straight.{Straight}
 use Rattle.vale_driver.specs.Reading.{◌>>=◌, given, strip, span, number_at, register_at, signed_at}
 use Rattle.vale_driver.specs.Source.{IsStraight, FitsAmount, statement_limit, statement_text, statements_text, tail_text, spelling, last, again_at, modifies_at, ensures_at, name_at, export_at, head_at, statement_at, statements_at, with_front, begins_tail, ends, tail_at, source_at}
 use Rattle.vale_driver.proofs.Steps.{at_tail, at_statement, at_limit}
-use Rattle.vale_driver.proofs.Pieces.{bind_some, given_some, strip_is, strip_takes, takes, stops, span_front, span_whole, number_is, number_takes, register_is, register_takes, signed_is, signed_takes, not_true, not_false, Fits32}
+use Rattle.vale_driver.proofs.Pieces.{bind_some, given_some, strip_is, strip_takes, takes, stops, span_front, span_whole, number_is, number_takes, register_is, register_takes, signed_is, signed_takes, not_false, Fits32}
 
 statement_is : (r : Reg) (bytes rest : List ℕ) (z : ℤ) → statement_at r bytes ≡ Some (z, rest) → (bytes ≡ statement_text r z rest) × Fits32 z
 unfolding statement_at
@@ -112,7 +112,7 @@ name_is bytes rest name h =
     let second = ap (λ (p : List ℕ × List ℕ). p.1) g.1 in (
       span_whole is_name_byte bytes ∙ ap (λ x. x ++ (span is_name_byte bytes).1) first ∙ ap (λ x. name ++ x) second,
       subst (λ n. is_name_text n ≡ true) first both.0,
-      subst (λ n. is_reserved_name n ≡ false) first (not_true _ both.1),
+      subst (λ n. is_reserved_name n ≡ false) first (not-true _ both.1),
     )
 
 -- a name has name bytes alone

@@ -1,5 +1,6 @@
 -- One step of reading after another.
 use Rattle.std.proofs.Common.{◌≡◌, ℕ, zero, suc, ◌+◌, ◌-◌, ◌<◌, ◌≤◌, ℤ, true, false, cond, List, [], ◌∷◌, ◌++◌, Option, Some, None, refl, sym, ap, ◌∙◌, arith, append_assoc}
+use Rattle.std.proofs.lemmas.List.{append-nil}
 use Rattle.x64_syntax.specs.declared.places.Reg.{Reg}
 use Rattle.std.specs.Prelude.{codes}
 use Rattle.vale_driver.specs.Reading.{◌>>=◌, given, strip}
@@ -11,10 +12,6 @@ then_some o x f e = ap (λ p. p >>= f) (sym e)
 
 pub then_none : {A B : Type 0} (o : Option A) (f : A → Option B) → None ≡ o → (o >>= f) ≡ None
 then_none o f e = ap (λ p. p >>= f) (sym e)
-
-append_nil : {A : Type 0} (xs : List A) → xs ++ [] ≡ xs
-append_nil [] = refl
-append_nil (x ∷ xs) = ap (λ ys. x ∷ ys) (append_nil xs)
 
 pub at_tail : (n : ℕ) (r : Reg) (bytes : List ℕ) → begins_tail bytes ≡ true → statements_at n r bytes ≡ Some ([], bytes)
 unfolding statements_at
@@ -35,7 +32,7 @@ with_more front z (Some x) = ap (λ zs. Some (zs, x.1)) (sym (append_assoc front
 
 module _ (whole : Option (List ℤ × List ℕ)) (front : List ℤ) (r : Reg) (rest : List ℕ) where
   pub read_tail : (n : ℕ) → with_front front (statements_at n r rest) ≡ whole → begins_tail rest ≡ true → whole ≡ Some (front, rest)
-  read_tail n h t = sym h ∙ ap (with_front front) (at_tail n r rest t) ∙ ap (λ zs. Some (zs, rest)) (append_nil front)
+  read_tail n h t = sym h ∙ ap (with_front front) (at_tail n r rest t) ∙ ap (λ zs. Some (zs, rest)) (append-nil front)
 
   pub read_nothing : (n k : ℕ) → k < n → with_front front (statements_at (n - k) r rest) ≡ whole → begins_tail rest ≡ false → None ≡ statement_at r rest → whole ≡ None
   read_nothing n k lt h t s =
@@ -69,13 +66,13 @@ module _ (whole : Option (List Pair × List ℕ)) (front : List Pair) (rest : Li
   a_comma n behind h = ap (λ o. behind_comma o rest (λ rest. pair_at rest >>= λ p. with_pairs (p.0 ∷ []) (more_at n p.1))) (sym h)
 
   pub pairs_end : (n : ℕ) → with_pairs front (more_at n rest) ≡ whole → None ≡ strip (codes ",") rest → whole ≡ Some (front, rest)
-  pairs_end n h s = sym h ∙ ap (with_pairs front) (no_comma n s) ∙ ap (λ ps. Some (ps, rest)) (append_nil front)
+  pairs_end n h s = sym h ∙ ap (with_pairs front) (no_comma n s) ∙ ap (λ ps. Some (ps, rest)) (append-nil front)
 
   pub pairs_limit : (n k : ℕ) → n ≤ k → with_pairs front (more_at (n - k) rest) ≡ whole → whole ≡ Some (front, rest)
   unfolding more_at
   pairs_limit n k le h =
       let e : n - k ≡ zero = omega arith in
-      sym h ∙ ap (λ m. with_pairs front (more_at m rest)) e ∙ ap (λ ps. Some (ps, rest)) (append_nil front)
+      sym h ∙ ap (λ m. with_pairs front (more_at m rest)) e ∙ ap (λ ps. Some (ps, rest)) (append-nil front)
 
   pub pairs_broken : (n k : ℕ) (behind : List ℕ) → k < n → with_pairs front (more_at (n - k) rest) ≡ whole → Some behind ≡ strip (codes ",") rest → None ≡ pair_at behind → whole ≡ None
   pairs_broken n k behind lt h s p =

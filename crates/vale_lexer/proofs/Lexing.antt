@@ -1,12 +1,13 @@
 -- How a scan goes on.
 use Rattle.std.proofs.Common.{◌≡◌, ℕ, zero, suc, ◌+◌, ◌-◌, ◌≤◌, ◌<◌, List, [], ◌∷◌, ◌++◌, length, take, drop, refl, sym, ap, ◌∙◌, arith, append_assoc}
+use Rattle.std.proofs.lemmas.List.{append-nil}
 use native.Mathlib.Numerals.{unary_clauses}
 use Rattle.vale_syntax.specs.declared.token.Token.{Token}
 use Rattle.vale_syntax.specs.declared.token.TokenKind.{TokenKind}
 use Rattle.vale_syntax.specs.declared.token.NotAToken.{NotAToken}
 use Rattle.vale_syntax.specs.declared.token.Front.TheVariants.{Skipped, Taken, Stopped}
 use Rattle.vale_lexer.specs.Lexes.{in_front, FaultOf, fault_of}
-use Rattle.vale_syntax.specs.declared.token.NotAToken.TheVariants as not
+use Rattle.vale_syntax.specs.declared.token.NotAToken.TheVariants as cause
 use Rattle.vale_syntax.specs.Tokens.{lexed, on_front, token, front, with_token, Lexed, All, Nothing}
 
 pub in_front_none : (l : Lexed) → in_front [] l ≡ l
@@ -72,17 +73,13 @@ stopped file at why bytes some e =
     lexed_front file at bytes some ∙ ap (λ f. on_front file at bytes f (λ k. lexed file k (at + 1) (drop 1 bytes))) (sym e)
 
 pub fault_told : (l : Lexed) (why : NotAToken) (at : ℕ) → l ≡ Nothing why at → FaultOf l (fault_of why at)
-fault_told l not.BadByte at h = h
-fault_told l not.NumberTooLarge at h = h
-fault_told l not.OpenComment at h = h
+fault_told l cause.BadByte at h = h
+fault_told l cause.NumberTooLarge at h = h
+fault_told l cause.OpenComment at h = h
 
 -- nothing is left
 pub lexed_all : (file at : ℕ) (rest : List ℕ) (ts : List Token) (l : Lexed) → length rest ≤ 0 → in_front ts (lexed file 0 at rest) ≡ l → l ≡ All ts
-lexed_all file at [] ts l h e = sym e ∙ ap (in_front ts) (lexed_end file at) ∙ ap All (append_nil ts)
-  where
-    append_nil : (xs : List Token) → xs ++ [] ≡ xs
-    append_nil [] = refl
-    append_nil (x ∷ xs) = ap (λ ys. x ∷ ys) (append_nil xs)
+lexed_all file at [] ts l h e = sym e ∙ ap (in_front ts) (lexed_end file at) ∙ ap All (append-nil ts)
 lexed_all file at (b ∷ bs) ts l h e = absurd (over h)
   where
     over : suc (length bs) ≤ 0 → ⊥

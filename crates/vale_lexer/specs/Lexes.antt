@@ -3,7 +3,7 @@ use Rattle.std.specs.Prelude.{◌≡◌, ℕ, ◌+◌, ◌≤◌, List, ◌++◌
 use Rattle.std.specs.declared.alloc.Global.{Global}
 use Rattle.vale_syntax.specs.declared.token.Token.{Token}
 use Rattle.vale_syntax.specs.declared.token.NotAToken.{NotAToken}
-use Rattle.vale_syntax.specs.declared.token.NotAToken.TheVariants as not
+use Rattle.vale_syntax.specs.declared.token.NotAToken.TheVariants as cause
 use Rattle.vale_syntax.specs.declared.token.Front.{Front}
 use Rattle.vale_syntax.specs.declared.token.Front.TheVariants.{Skipped, Taken, Stopped}
 use Rattle.vale_syntax.specs.Tokens.{Lexed, All, Nothing, lexed}
@@ -11,14 +11,14 @@ use Rattle.vale_lexer.specs.declared.scan.LexFault.{LexFault}
 use Rattle.vale_lexer.specs.declared.scan.LexFault.TheVariants.{BadByte, NumberTooLarge, OpenComment, NoMemory}
 
 abbrev pub fault_of : NotAToken → ℕ → LexFault
-fault_of not.BadByte at = BadByte at
-fault_of not.NumberTooLarge at = NumberTooLarge at
-fault_of not.OpenComment at = OpenComment at
+fault_of cause.BadByte at = BadByte at
+fault_of cause.NumberTooLarge at = NumberTooLarge at
+fault_of cause.OpenComment at = OpenComment at
 
 abbrev pub FaultOf : Lexed → LexFault → Type 0
-FaultOf l (BadByte at) = l ≡ Nothing not.BadByte at
-FaultOf l (NumberTooLarge at) = l ≡ Nothing not.NumberTooLarge at
-FaultOf l (OpenComment at) = l ≡ Nothing not.OpenComment at
+FaultOf l (BadByte at) = l ≡ Nothing cause.BadByte at
+FaultOf l (NumberTooLarge at) = l ≡ Nothing cause.NumberTooLarge at
+FaultOf l (OpenComment at) = l ≡ Nothing cause.OpenComment at
 FaultOf l NoMemory = Unit {0}
 
 -- the tokens, or the first place without one and its kind, unless memory ran out

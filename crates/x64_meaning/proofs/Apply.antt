@@ -2,7 +2,7 @@
 use Rattle.std.proofs.Common.{◌≡◌, ℕ, ◌≤◌, pos, Bool, true, false, not, List, [], ◌∷◌, refl, sym, ap, ◌∙◌, subst, arith, ◌||◌, cond, zero, suc}
 use Rattle.std.specs.Prelude.{nat_le, map}
 use Rattle.std.specs.List.{AllByRecursion}
-use Rattle.std.proofs.lemmas.Bool.{and_parts, or_parts, false≢true, leb-true}
+use Rattle.std.proofs.lemmas.Bool.{not-true, and_parts, or_parts, false≢true, leb-true}
 use Rattle.x64_syntax.specs.declared.places.Place.{Place}
 use Rattle.x64_syntax.specs.declared.places.Place.TheVariants.{Reg, Xmm, Flag}
 use Rattle.x64_syntax.specs.declared.operands.Opr.{Opr}
@@ -50,10 +50,6 @@ suits_stored b a m sorted (Flag f) (Ite c (Int (pos x)) (Int (pos y))) h =
 suits_stored b a m sorted (Flag f) (Int (pos x)) h = ap (λ n. Whole (pos n)) (sym (small_flag x h))
 suits_stored b a m sorted _ _ h = absurd (false≢true h)
 
-pub not_true : (b : Bool) → not b ≡ true → b ≡ false
-not_true true h = absurd (false≢true h)
-not_true false h = refl
-
 -- what is asked of equations that come in order
 pub record Order (done : List Place) (e : Equation) (es : List Equation) : Type 0 where
   pub stored : suits e.place e.right ≡ true
@@ -66,7 +62,7 @@ order_of done e es h =
     let a = and_parts (suits e.place e.right) _ h in
     let b = and_parts (knows done e.right) _ a.1 in
     let c = and_parts (not (among done e.place)) _ b.1 in
-    record { stored = a.0; taken = b.0; new = not_true _ c.0; rest = c.1 }
+    record { stored = a.0; taken = b.0; new = not-true _ c.0; rest = c.1 }
 
 -- places of equations
 abbrev pub places : List Equation → List Place

@@ -5,7 +5,7 @@ use Rattle.std.specs.List.{AllByRecursion, list_all}
 use Rattle.std.proofs.Common.{length-append}
 use Rattle.std.proofs.Math.Seq.{get_or-append_seam}
 use Rattle.std.proofs.lemmas.Option.{slice_get-get_or}
-use Rattle.std.proofs.lemmas.Bool.{and_parts, false≢true}
+use Rattle.std.proofs.lemmas.Bool.{not-true, and_parts, false≢true}
 use Rattle.x64_syntax.specs.declared.places.Reg.TheVariants.{Rsp}
 use Rattle.x64_syntax.specs.declared.places.FlagName.TheVariants.{Cf, Zf, Sf, Of}
 use Rattle.x64_syntax.specs.declared.places.Place.{Place}
@@ -28,7 +28,7 @@ use Rattle.x64_meaning.specs.Condition.{Versions, version, version_name, next_ve
 use Rattle.term_core.proofs.Values.{val_eq_same}
 use Rattle.x64_meaning.proofs.Reading.{read-sorted}
 use Rattle.x64_meaning.proofs.Exps.{exp_term-value, exp_value-same, exp_value-all}
-use Rattle.x64_meaning.proofs.Apply.{apply-other, apply-IsState, apply-blocks, apply-equations, equations-in_order, Equal, not_true, order_of, places, among_head, among_tail}
+use Rattle.x64_meaning.proofs.Apply.{apply-other, apply-IsState, apply-blocks, apply-equations, equations-in_order, Equal, order_of, places, among_head, among_tail}
 use Rattle.x64_meaning.proofs.Names.{place_in, version_in, place_in-version_name, version_in-version_name}
 
 -- the state after an instruction that loads nothing
@@ -188,10 +188,10 @@ plain_does i s h =
     let p3 = and_parts _ _ p4.0 in
     let p2 = and_parts _ _ p3.0 in
     let p1 = and_parts _ _ p2.0 in
-    let cf : reads i (Flag Cf) ≡ false = not_true _ p1.1 in
-    let zf : reads i (Flag Zf) ≡ false = not_true _ p2.1 in
-    let sf : reads i (Flag Sf) ≡ false = not_true _ p3.1 in
-    let of : reads i (Flag Of) ≡ false = not_true _ p4.1 in
+    let cf : reads i (Flag Cf) ≡ false = not-true _ p1.1 in
+    let zf : reads i (Flag Zf) ≡ false = not-true _ p2.1 in
+    let sf : reads i (Flag Sf) ≡ false = not-true _ p3.1 in
+    let of : reads i (Flag Of) ≡ false = not-true _ p4.1 in
     let none : loads_from i ≡ None = plain_loads _ p1.0 in
     rw (cf, zf, sf, of, none) refl
 
@@ -211,7 +211,7 @@ unwritten_same : (is : List Ins) (s : State) (p : Place) → unwritten is p ≡ 
 unwritten_same [] s p h = refl
 unwritten_same (i ∷ is) s p h =
     let b = and_parts (not (among (writes i) p)) (unwritten is p) h in
-    unwritten_same is (next s i) p b.1 ∙ apply-other s (Word 0) (equations i) s p (not_true _ b.0)
+    unwritten_same is (next s i) p b.1 ∙ apply-other s (Word 0) (equations i) s p (not-true _ b.0)
 
 blocks_same : (is : List Ins) (s : State) → (end_of s is).blocks ≡ s.blocks
 blocks_same [] s = refl
