@@ -1,35 +1,29 @@
 -- States of the machine: 16 words of 64 bits, 16 of 128 bits, four flags, and blocks of memory that lie apart.
-use Rattle.std.specs.Prelude.{◌≡◌, ℕ, zero, suc, ◌+◌, ◌-◌, ◌*◌, ◌<◌, ◌≤◌, ℤ, pos, Bool, ◌&&◌, nat_le, List, [], ◌∷◌, length, take, drop, Option, slice_index, slice_index_or, slice_set}
-use Rattle.std.specs.List.{find}
-use Rattle.std.specs.Option.{option_map}
+use Rattle.std.specs.Prelude.{◌≡◌, ℕ, zero, suc, ◌+◌, ◌<◌, ◌≤◌, ℤ, pos, List, [], length, Option, slice_index, slice_index_or, slice_set}
 use Rattle.x64_syntax.specs.declared.places.Reg.{Reg as GeneralReg}
 use Rattle.x64_syntax.specs.declared.places.FlagName.{FlagName}
 use Rattle.x64_syntax.specs.declared.places.Place.{Place}
 use Rattle.x64_syntax.specs.declared.places.Place.TheVariants.{Reg, Xmm, Flag}
 use Rattle.x64_syntax.specs.Places.{reg_number, xmm_number, flag_number}
+use Rattle.x64_blocks.specs.Memory.{Range, load as load_in}
 use Rattle.term_core.specs.declared.term.Sort.{Sort}
 use Rattle.term_core.specs.declared.term.Sort.TheVariants as sort
 use Rattle.term_core.specs.Value.{T, T128, Val, Whole, Word, Wide, whole, word, wide}
 use Rattle.x64_meaning.specs.declared.machine.Flag.{Flag as FlagValue}
 use Rattle.x64_meaning.specs.declared.machine.Flag.TheVariants.{Zero, One, Undefined}
 
--- bytes that lie one after another from an address on
-pub record Block : Type 0 where
-  pub base : ℕ
-  pub bytes : List ℕ
-
 pub record State : Type 0 where
   pub regs : List ℕ
   pub xmms : List ℕ
   pub flags : List FlagValue
-  pub blocks : List Block
+  pub blocks : List Range
 
 -- the block of a number, and an empty one past the last
-abbrev pub block_at : State → ℕ → Block
+abbrev pub block_at : State → ℕ → Range
 block_at s k = slice_index_or s.blocks k record { base = 0; bytes = [] }
 
 -- the address lies in the block
-pub record Covers (b : Block) (a : ℕ) : Type 0 where
+pub record Covers (b : Range) (a : ℕ) : Type 0 where
   pub from : b.base ≤ a
   pub below : a < b.base + length b.bytes
 
@@ -77,15 +71,6 @@ write s (Reg r) v = record s { regs = slice_set s.regs (reg_number r) (word v) }
 write s (Xmm x) v = record s { xmms = slice_set s.xmms (xmm_number x) (wide v) }
 write s (Flag f) v = record s { flags = slice_set s.flags (flag_number f) (flag_from (whole v)) }
 
--- a block holds all bytes of an access
-abbrev pub holds : ℕ → ℕ → Block → Bool
-holds a size b = nat_le b.base a && nat_le (a + size) (b.base + length b.bytes)
-
--- the number whose lowest byte is the first
-abbrev pub le_number : List ℕ → ℕ
-le_number [] = 0
-le_number (b ∷ bs) = b + 256 * le_number bs
-
 -- the little-endian number in the bytes of an access, where one block holds them all
 abbrev pub load : State → ℕ → ℕ → Option ℕ
-load s a size = option_map (λ b. le_number (take size (drop (a - b.base) b.bytes))) (find (holds a size) s.blocks)
+load s a size = load_in s.blocks a size
