@@ -1,55 +1,26 @@
 // The condition of a source: the equations of its instructions, over numbered versions of places, and what is to follow.
 
-ghost use Rattle.std.specs.Prelude.{◌≡◌, ◌<◌, ◌+◌, ◌^◌, ◌++◌, ◌∷◌, [], pos, decimal, length, IfOk, OnOk};
-ghost use Rattle.term_core.specs.declared.term.Sort.TheVariants as sort;
+ghost use Rattle.std.specs.Prelude.{◌≡◌, ◌<◌, ◌+◌, ◌^◌, ◌++◌, ◌∷◌, [], pos, length, IfOk, OnOk};
 ghost use Rattle.term_core.specs.declared.term.BinOp.TheVariants as bin;
 ghost use Rattle.term_core.specs.declared.term.UnOp.TheVariants as un;
 ghost use Rattle.term_core.specs.Terms.{tree, trees};
 ghost use Rattle.term_core.specs.Terms as tm;
-ghost use Rattle.x64_meaning.specs.State.{place_sort};
 ghost use Rattle.x64_meaning.specs.Table.{word_of};
-ghost use Rattle.x64_meaning.specs.Condition.{version_name, version};
+ghost use Rattle.x64_meaning.specs.Condition.{version};
 ghost use Rattle.vale_driver.specs.Addition.{sum_term, carry_term, zero_term, sign_term, overflow_term, addition_terms, promise_term};
 ghost use Rattle.vale_driver.specs.Build.{statement_hyps, hyps_from, condition_hyps, condition_goal};
 
 use crate::straight::Straight;
-use itoa::Buffer;
 use sqlite_items::{Boxed, Items};
 use std::alloc::{AllocError as NoMemory, Global};
-use term_core::{BinOp, Sequent, Sort, Term, UnOp};
-use x64_syntax::{FlagName, Place, Reg, Text};
+use term_core::{BinOp, Sequent, Term, UnOp};
+use x64_meaning::version;
+use x64_syntax::{FlagName, Place, Reg};
 
 /// 2^64, from which a sum of words carries, and 2^63, from which a word is negative.
 const CARRIES_FROM: i128 = 1 << 64;
 
 const NEGATIVE_FROM: i128 = 1 << 63;
-
-// The name of a place's value at a version, as `rax.0`.
-fn version_text(alloc: Global, place: Place, version: u64) -> Result<Text, NoMemory>
-    ensures { IfOk result (λ t. t ≡ version_name place version) }
-{
-    let mut name = Vec::from_slice(alloc, place.name().as_bytes())?;
-    name.push(b'.')?;
-    name.extend_from_slice(Buffer::new().format(version).as_bytes())?;
-    Ok(Text::from_vec(name))
-}
-
-fn sort_of_place(place: Place) -> Sort
-    ensures { result ≡ place_sort place }
-{
-    match place {
-        Place::Reg(_) => Sort::W64,
-        Place::Xmm(_) => Sort::W128,
-        Place::Flag(_) => Sort::Int,
-    }
-}
-
-fn version(alloc: Global, place: Place, number: u64) -> Result<Term, NoMemory>
-    ensures { IfOk result (λ t. tree t ≡ version place number) }
-{
-    let name = version_text(alloc, place, number)?;
-    Ok(Term::Name(name, sort_of_place(place)))
-}
 
 fn unary(alloc: Global, op: UnOp, a: Term) -> Result<Term, NoMemory>
     ensures { IfOk result (λ t. tree t ≡ tm.Un op (tree a)) }

@@ -6,6 +6,7 @@ use Rattle.std.proofs.lemmas.Slice.Eq.{bytes_eq-Decides}
 use Rattle.x64_syntax.specs.Words.{is_name_byte, is_digit_byte}
 use Rattle.vale_syntax.specs.declared.token.TokenKind.{TokenKind}
 use Rattle.vale_syntax.specs.declared.token.Front.{Front}
+use Rattle.vale_syntax.proofs.Marks.{some}
 use Rattle.vale_syntax.specs.Tokens.{begins, is_blank, is_in_line, close_len, comment, is_stamp_byte, stamp_len, name_front, named, is_hex_byte, value, below, suffixed, hex_len, number_of, number, marks, mark_front, other, front}
 use Rattle.vale_lexer.specs.Lexes.{Fits}
 
@@ -141,10 +142,7 @@ comment_fits bytes long = by_close (close_len (drop 2 bytes)) refl
         (omega arith, omega (arith, short, left))
 
 marks_some : (bytes : List ℕ) (m : List ℕ) → find (λ mark. begins mark bytes) marks ≡ Some m → 1 ≤ length m
-marks_some bytes m h = found_some bytes marks m (some_all) h
-  where
-    some_all : AllByRecursion (λ k. 1 ≤ length k) marks
-    some_all = omega arith
+marks_some bytes m h = found_some bytes marks m some h
 
 -- a line's end isn't the slash that begins a comment
 line_some : (b : ℕ) (bs : List ℕ) → begins (codes "//") (b ∷ bs) ≡ true → 1 ≤ prefix_len is_in_line (b ∷ bs)

@@ -1,4 +1,3 @@
 pub mod Lexing
 pub mod Fronts
 pub mod Loops
-pub mod Marks

@@ -1,5 +1,5 @@
 -- What the scan answers.
-use Rattle.std.specs.Prelude.{◌≡◌, ℕ, ◌+◌, ◌≤◌, List, ◌++◌, length, drop, Option, Some, None, Result, Ok, Err, Vec}
+use Rattle.std.specs.Prelude.{◌≡◌, ℕ, ◌+◌, ◌≤◌, List, ◌++◌, length, drop, Result, Ok, Err, Vec}
 use Rattle.std.specs.declared.alloc.Global.{Global}
 use Rattle.vale_syntax.specs.declared.token.Token.{Token}
 use Rattle.vale_syntax.specs.declared.token.NotAToken.{NotAToken}
@@ -46,8 +46,3 @@ abbrev pub Fits : ℕ → Front → Type 0
 Fits len (Skipped n) = (1 ≤ n) × (n ≤ len)
 Fits len (Taken kind n) = (1 ≤ n) × (n ≤ len)
 Fits len (Stopped why) = Unit {0}
-
--- the length of a mark that was found
-abbrev pub mark_len : Option (List ℕ) → ℕ
-mark_len None = 0
-mark_len (Some mark) = length mark

@@ -7,14 +7,8 @@ ghost use Rattle.vale_lexer.specs.Lexes.{Fits};
 
 use crate::class::{Class, run_len};
 use crate::number::number;
-use vale_syntax::{Front, NotAToken, TokenKind};
+use vale_syntax::{Front, MARKS, NotAToken, TokenKind};
 use x64_syntax::{is_digit, is_name_part};
-
-/// The marks, longer ones first.
-const MARKS: [&str; 25] = [
-    "==>", ":=", "==", "!=", "<=", ">=", "&&", "||", "(", ")", "[", "]", "{", "}", ",", ";", ":",
-    "=", "<", ">", "+", "-", "*", "!", "@",
-];
 
 /// What stands at the front: a blank or comment, else the longest token that begins there.
 pub(crate) fn front(bytes: &[u8]) -> Front

@@ -3,9 +3,7 @@
 
 mod class;
 mod front;
-mod laws;
 mod number;
 mod scan;
 
-pub use laws::longest_mark;
 pub use scan::{LexFault, tokens};

@@ -1,5 +1,5 @@
 -- The tokens of a text, or the first place without one.
-use Rattle.std.specs.Prelude.{ℕ, zero, suc, ◌+◌, ◌-◌, ◌*◌, ◌^◌, Bool, not, ◌&&◌, ◌||◌, ◌==◌, nat_lt, nat_le, List, [], ◌∷◌, length, take, drop, Option, Some, None, option_map, codes, if◌then◌else◌}
+use Rattle.std.specs.Prelude.{map, ℕ, zero, suc, ◌+◌, ◌-◌, ◌*◌, ◌^◌, Bool, not, ◌&&◌, ◌||◌, ◌==◌, nat_lt, nat_le, List, [], ◌∷◌, length, take, drop, Option, Some, None, option_map, codes, if◌then◌else◌}
 use Rattle.std.specs.List.{find, prefix_len}
 use Rattle.std.specs.Str.{bytes_eq}
 use Rattle.x64_syntax.specs.Words.{is_digit_byte, is_name_byte}
@@ -10,6 +10,7 @@ use Rattle.vale_syntax.specs.declared.token.NotAToken.TheVariants.{BadByte, Numb
 use Rattle.vale_syntax.specs.declared.token.Front.{Front}
 use Rattle.vale_syntax.specs.declared.token.Front.TheVariants.{Skipped, Taken, Stopped}
 use Rattle.vale_syntax.specs.declared.token.Token.{Token}
+use Rattle.vale_syntax.specs.declared.token.TheConstants.{MARKS}
 
 -- the text begins with this one
 abbrev pub begins : List ℕ → List ℕ → Bool
@@ -88,12 +89,13 @@ number_of (suc m) bytes = suffixed (value 16 (take (suc m) (drop 2 bytes))) (suc
 abbrev pub number : List ℕ → Front
 number bytes = number_of (hex_len bytes) bytes
 
--- the marks, longer ones first
 abbrev pub marks : List (List ℕ)
-marks =
-    codes "==>" ∷ codes ":=" ∷ codes "==" ∷ codes "!=" ∷ codes "<=" ∷ codes ">=" ∷ codes "&&" ∷ codes "||"
-    ∷ codes "(" ∷ codes ")" ∷ codes "[" ∷ codes "]" ∷ codes "{" ∷ codes "}" ∷ codes "," ∷ codes ";" ∷ codes ":" ∷ codes "="
-    ∷ codes "<" ∷ codes ">" ∷ codes "+" ∷ codes "-" ∷ codes "*" ∷ codes "!" ∷ codes "@" ∷ []
+marks = map (λ mark. mark.now) MARKS
+
+-- the length of a mark that was found
+abbrev pub mark_len : Option (List ℕ) → ℕ
+mark_len None = 0
+mark_len (Some mark) = length mark
 
 abbrev pub mark_front : Option (List ℕ) → Front
 mark_front None = Stopped BadByte

@@ -49,3 +49,9 @@ pub enum Front {
     /// Nothing that a text may have here.
     Stopped(NotAToken),
 }
+
+/// The marks. A mark stands before those that it begins with, so that the first that fits is the longest.
+pub const MARKS: [&str; 25] = [
+    "==>", ":=", "==", "!=", "<=", ">=", "&&", "||", "(", ")", "[", "]", "{", "}", ",", ";", ":",
+    "=", "<", ">", "+", "-", "*", "!", "@",
+];

@@ -24,7 +24,7 @@ use Rattle.x64_meaning.specs.Exp.{Exp, exp_value, exp_term, among}
 use Rattle.x64_meaning.specs.Table.{Equation, equations, writes, reads, loads_from, in_order}
 use Rattle.x64_meaning.specs.Run.{after, does, Done, Way, start, stepped, Ended, run, act, after_does}
 use Rattle.x64_meaning.specs.Contract.{Contract, Worth, Post, Frame, Meets, SameRuns}
-use Rattle.x64_meaning.specs.Condition.{Versions, version, version_name, next_versions, hypothesis, hypotheses, end_versions, first_versions, straight_hyps, straight_goal, is_plain, unwritten, straight_items, StraightFits}
+use Rattle.x64_meaning.specs.Condition.{Versions, version, version_name, next_versions, hypothesis, hypotheses, end_versions, first_versions, straight_hyps, straight_goal, is_plain, unwritten, straight_items, StraightFits, Names, IsNamed}
 use Rattle.term_core.proofs.Values.{val_eq_same}
 use Rattle.x64_meaning.proofs.Reading.{read-sorted}
 use Rattle.x64_meaning.proofs.Exps.{exp_term-value, exp_value-same, exp_value-all}
@@ -223,6 +223,19 @@ word_same m n h = cc
 promises_hold : (es : List Exp) (is : List Ins) (s : State) → IsState s → length is < 2 ^ 64 → AllByRecursion (λ e. True (straight_hyps is) (straight_goal is e)) es → AllByRecursion (Worth (read s) (read (end_of s is))) es
 promises_hold [] is s ok small h = tt
 promises_hold (e ∷ es) is s ok small h = (goal_true is e s ok small h.0, promises_hold es is s ok small h.1)
+
+pub straight_named : (name : List ℕ) (is : List Ins) → list_all is_plain is ≡ true → length is < 2 ^ 64 → IsNamed is (straight_items name is) 0
+straight_named name is plain small s ok =
+    let has = has_all (map item.Ins is ++ item.Ret ∷ []) (item.Entry name ∷ []) in
+    let r = run_straight (straight_items name is) is 1 (stepped (start s) s []) plain has in
+    let f = assignment-follows is s ok small in
+    let names : Names is s (end_of s is) = record {
+      assignment = assignment is s;
+      holds = hypotheses_hold (assignment is s) first_versions is s ok f;
+      first = follows-now (assignment is s) first_versions is s f;
+      last = follows_end (assignment is s) first_versions is s f;
+    } in
+    (suc r.0, r.1, r.2, subst (Names is s) (sym r.3) names)
 
 pub straight_meets : (name : List ℕ) (is : List Ins) (c : Contract) → StraightFits is c → Meets c (straight_items name is) 0
 straight_meets name is c fits s ok pre =

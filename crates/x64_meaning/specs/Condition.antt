@@ -11,9 +11,10 @@ use Rattle.x64_syntax.specs.declared.items.Item.TheVariants as item
 use Rattle.x64_syntax.specs.Places.{place_name}
 use Rattle.term_core.specs.declared.term.BinOp.TheVariants as bin
 use Rattle.term_core.specs.Terms.{Tm, Name, Bin, W64}
-use Rattle.term_core.specs.Value.{True}
+use Rattle.term_core.specs.Value.{True, Assignment, Holds, value}
 use Rattle.x64_meaning.specs.Contract.{Contract}
-use Rattle.x64_meaning.specs.State.{place_sort}
+use Rattle.x64_meaning.specs.State.{State, IsState, place_sort, read}
+use Rattle.x64_meaning.specs.Run.{Way, start, Ended, run}
 use Rattle.x64_meaning.specs.Exp.{Exp, exp_term, among}
 use Rattle.x64_meaning.specs.Table.{Equation, equations, writes, reads, loads_from}
 
@@ -79,3 +80,15 @@ pub record StraightFits (is : List Ins) (c : Contract) : Type 0 where
   pub declared : (p : Place) → c.modifies p ≡ false → unwritten is p ≡ true
   pub rsp : c.modifies (Reg Rsp) ≡ false
   pub proved : AllByRecursion (λ e. True (straight_hyps is) (straight_goal is e)) c.ensures_
+
+-- An assignment makes all equations of straight code true, and gives the first versions of places what they hold in the
+-- one state, and the last versions what they hold in the other.
+pub record Names (is : List Ins) (s t : State) : Type 0 where
+  pub assignment : Assignment
+  pub holds : AllByRecursion (Holds assignment) (straight_hyps is)
+  pub first : (p : Place) → value assignment (version p 0) ≡ read s p
+  pub last : (p : Place) → value assignment (version p (end_versions first_versions is p)) ≡ read t p
+
+-- From any state, straight code of plain instructions ends, and some assignment names its start and its end.
+abbrev pub IsNamed : List Ins → List Item → ℕ → Type 0
+IsNamed is items pos = (s : State) → IsState s → (n : ℕ) × (w : Way) × (run items n pos (start s) ≡ Ended w) × Names is s w.state

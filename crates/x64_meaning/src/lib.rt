@@ -4,6 +4,8 @@
 
 mod laws;
 mod machine;
+mod versions;
 
 pub use laws::straight_code;
 pub use machine::{Fault, Flag, Obs};
+pub use versions::{place_sort, version, version_name};

@@ -3,8 +3,7 @@ use Rattle.std.proofs.Common.{◌≡◌, ℕ, ◌≤◌, Bool, true, false, cond
 use Rattle.std.specs.Prelude.{◌&&◌, nat_le}
 use Rattle.std.specs.List.{find, list_all, AllByRecursion}
 use Rattle.std.proofs.lemmas.Bool.{and_parts, leb-true, false≢true}
-use Rattle.vale_syntax.specs.Tokens.{begins, marks}
-use Rattle.vale_lexer.specs.Lexes.{mark_len}
+use Rattle.vale_syntax.specs.Tokens.{begins, marks, mark_len}
 
 -- no mark is shorter than one behind it
 longer_first : List (List ℕ) → Bool
@@ -38,3 +37,6 @@ longest_in bytes (m ∷ ms) h = by_test (begins m bytes) refl (and_parts _ _ h).
 pub longest : (bytes : List ℕ) → AllByRecursion (λ mark. begins mark bytes ≡ true → length mark ≤ mark_len (find (λ m. begins m bytes) marks)) marks
 unfolding longer_first
 longest bytes = longest_in bytes marks refl
+
+pub some : AllByRecursion (λ mark. 1 ≤ length mark) marks
+some = omega arith

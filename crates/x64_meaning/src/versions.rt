@@ -1,0 +1,59 @@
+// The values of places at versions, as terms.
+
+ghost use Rattle.std.specs.Prelude.{◌≡◌, IfOk};
+ghost use Rattle.term_core.specs.Terms.{tree};
+ghost use Rattle.x64_meaning.specs.State.{place_sort};
+ghost use Rattle.x64_meaning.specs.Condition.{version_name, version};
+
+use itoa::Buffer;
+use std::alloc::{AllocError as NoMemory, Global};
+use term_core::{Sort, Term};
+use x64_syntax::{Place, Text};
+
+/// The sort of what a place holds. A flag is a whole number: 0, 1, or 2 where it is undefined.
+pub fn place_sort(place: Place) -> Sort
+    ensures { result ≡ place_sort place }
+{
+    match place {
+        Place::Reg(_) => Sort::W64,
+        Place::Xmm(_) => Sort::W128,
+        Place::Flag(_) => Sort::Int,
+    }
+}
+
+/// The name of a place's value at a version, as `rax.0`.
+pub fn version_name(alloc: Global, place: Place, number: u64) -> Result<Text, NoMemory>
+    ensures { IfOk result (λ t. t ≡ version_name place number) }
+{
+    let mut name = Vec::from_slice(alloc, place.name().as_bytes())?;
+    name.push(b'.')?;
+    name.extend_from_slice(Buffer::new().format(number).as_bytes())?;
+    Ok(Text::from_vec(name))
+}
+
+/// A place's value at a version, as a term.
+pub fn version(alloc: Global, place: Place, number: u64) -> Result<Term, NoMemory>
+    ensures { IfOk result (λ t. tree t ≡ version place number) }
+{
+    let name = version_name(alloc, place, number)?;
+    Ok(Term::Name(name, place_sort(place)))
+}
+
+#[cfg(test)]
+mod tests {
+    use super::*;
+    use std::test::Fail;
+    use term_core::same;
+    use x64_syntax::{FlagName, Reg};
+
+    #[test]
+    fn names_a_place_at_a_version(rt: HostRuntime) -> Result<(), Fail> {
+        let alloc = rt.alloc();
+        let name = version_name(alloc, Place::Reg(Reg::R15), 4096)?;
+        assert_eq!(rt; name.as_bytes(), b"r15.4096".as_slice());
+        let flag = version(alloc, Place::Flag(FlagName::Cf), 0)?;
+        let want = Term::Name(Text::from_slice(alloc, b"cf.0")?, Sort::Int);
+        assert!(rt; same(&flag, &want));
+        Ok(())
+    }
+}
