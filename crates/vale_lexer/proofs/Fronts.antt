@@ -6,6 +6,7 @@ use Rattle.std.proofs.lemmas.Slice.Eq.{bytes_eq-Decides}
 use Rattle.x64_syntax.specs.Words.{is_name_byte, is_digit_byte}
 use Rattle.vale_syntax.specs.declared.token.TokenKind.{TokenKind}
 use Rattle.vale_syntax.specs.declared.token.Front.{Front}
+use Rattle.vale_syntax.specs.declared.mark.Mark.{Mark}
 use Rattle.vale_syntax.proofs.Marks.{some}
 use Rattle.vale_syntax.specs.Tokens.{begins, is_blank, is_in_line, close_len, comment, is_stamp_byte, stamp_len, name_front, named, is_hex_byte, value, below, suffixed, hex_len, number_of, number, marks, mark_front, other, front}
 use Rattle.vale_lexer.specs.Lexes.{Fits}
@@ -101,35 +102,35 @@ number_fits b bs h = by_len (hex_len (b ∷ bs)) refl
         let rest = length-drop (suc m) (drop 2 (b ∷ bs)) in
         suffixed_fits (value 16 (take (suc m) (drop 2 (b ∷ bs)))) (suc m + 2) (length (b ∷ bs)) (drop (suc m) (drop 2 (b ∷ bs))) (omega arith) (omega (arith, short, left, rest))
 
-found_begins : (bytes : List ℕ) (ms : List (List ℕ)) (m : List ℕ) → find (λ mark. begins mark bytes) ms ≡ Some m → begins m bytes ≡ true
+found_begins : (bytes : List ℕ) (ms : List (List ℕ × Mark)) (m : List ℕ × Mark) → find (λ m. begins m.0 bytes) ms ≡ Some m → begins m.0 bytes ≡ true
 found_begins bytes [] m h = absurd cc
-found_begins bytes (k ∷ ms) m h = by_test (begins k bytes) refl h (found_begins bytes ms m)
+found_begins bytes (k ∷ ms) m h = by_test (begins k.0 bytes) refl h (found_begins bytes ms m)
   where
-    same : (k m : List ℕ) → Some k ≡ Some m → k ≡ m
+    same : (k m : List ℕ × Mark) → Some k ≡ Some m → k ≡ m
     same k m e = cc
 
-    by_test : (t : Bool) → begins k bytes ≡ t → cond t (Some k) (find (λ mark. begins mark bytes) ms) ≡ Some m → (find (λ mark. begins mark bytes) ms ≡ Some m → begins m bytes ≡ true) → begins m bytes ≡ true
-    by_test true e f g = subst (λ x. begins x bytes ≡ true) (same k m f) e
+    by_test : (t : Bool) → begins k.0 bytes ≡ t → cond t (Some k) (find (λ m. begins m.0 bytes) ms) ≡ Some m → (find (λ m. begins m.0 bytes) ms ≡ Some m → begins m.0 bytes ≡ true) → begins m.0 bytes ≡ true
+    by_test true e f g = subst (λ x. begins x.0 bytes ≡ true) (same k m f) e
     by_test false e f g = g f
 
-found_some : (bytes : List ℕ) (ms : List (List ℕ)) (m : List ℕ) → AllByRecursion (λ k. 1 ≤ length k) ms → find (λ mark. begins mark bytes) ms ≡ Some m → 1 ≤ length m
+found_some : (bytes : List ℕ) (ms : List (List ℕ × Mark)) (m : List ℕ × Mark) → AllByRecursion (λ k. 1 ≤ length k.0) ms → find (λ m. begins m.0 bytes) ms ≡ Some m → 1 ≤ length m.0
 found_some bytes [] m all h = absurd cc
-found_some bytes (k ∷ ms) m all h = by_test (begins k bytes) h (found_some bytes ms m all.1)
+found_some bytes (k ∷ ms) m all h = by_test (begins k.0 bytes) h (found_some bytes ms m all.1)
   where
-    same : (k m : List ℕ) → Some k ≡ Some m → k ≡ m
+    same : (k m : List ℕ × Mark) → Some k ≡ Some m → k ≡ m
     same k m e = cc
 
-    by_test : (t : Bool) → cond t (Some k) (find (λ mark. begins mark bytes) ms) ≡ Some m → (find (λ mark. begins mark bytes) ms ≡ Some m → 1 ≤ length m) → 1 ≤ length m
-    by_test true f g = subst (λ x. 1 ≤ length x) (same k m f) all.0
+    by_test : (t : Bool) → cond t (Some k) (find (λ m. begins m.0 bytes) ms) ≡ Some m → (find (λ m. begins m.0 bytes) ms ≡ Some m → 1 ≤ length m.0) → 1 ≤ length m.0
+    by_test true f g = subst (λ x. 1 ≤ length x.0) (same k m f) all.0
     by_test false f g = g f
 
 -- the mark that is found begins the text, and isn't empty
-mark_fits : (bytes : List ℕ) (ms : List (List ℕ)) → ((m : List ℕ) → find (λ mark. begins mark bytes) ms ≡ Some m → 1 ≤ length m) → Fits (length bytes) (mark_front (find (λ mark. begins mark bytes) ms))
-mark_fits bytes ms some = by_found (find (λ mark. begins mark bytes) ms) refl
+mark_fits : (bytes : List ℕ) (ms : List (List ℕ × Mark)) → ((m : List ℕ × Mark) → find (λ m. begins m.0 bytes) ms ≡ Some m → 1 ≤ length m.0) → Fits (length bytes) (mark_front (find (λ m. begins m.0 bytes) ms))
+mark_fits bytes ms some = by_found (find (λ m. begins m.0 bytes) ms) refl
   where
-    by_found : (o : Option (List ℕ)) → find (λ mark. begins mark bytes) ms ≡ o → Fits (length bytes) (mark_front o)
+    by_found : (o : Option (List ℕ × Mark)) → find (λ m. begins m.0 bytes) ms ≡ o → Fits (length bytes) (mark_front o)
     by_found None e = tt
-    by_found (Some m) e = (some m e, begins_short m bytes (found_begins bytes ms m e))
+    by_found (Some m) e = (some m e, begins_short m.0 bytes (found_begins bytes ms m e))
 
 comment_fits : (bytes : List ℕ) → 2 ≤ length bytes → Fits (length bytes) (comment (close_len (drop 2 bytes)))
 comment_fits bytes long = by_close (close_len (drop 2 bytes)) refl
@@ -141,7 +142,7 @@ comment_fits bytes long = by_close (close_len (drop 2 bytes)) refl
         let left = length-drop 2 bytes in
         (omega arith, omega (arith, short, left))
 
-marks_some : (bytes : List ℕ) (m : List ℕ) → find (λ mark. begins mark bytes) marks ≡ Some m → 1 ≤ length m
+marks_some : (bytes : List ℕ) (m : List ℕ × Mark) → find (λ m. begins m.0 bytes) marks ≡ Some m → 1 ≤ length m.0
 marks_some bytes m h = found_some bytes marks m some h
 
 -- a line's end isn't the slash that begins a comment

@@ -1,13 +1,12 @@
 // What stands at the front of a text.
 
 ghost use Rattle.std.specs.Prelude.{◌≡◌, ◌≤◌, ◌<◌, ◌+◌, ◌^◌, length, map, IfSome, IsTrue};
-ghost use Rattle.std.specs.List.{find};
-ghost use Rattle.vale_syntax.specs.Tokens.{front, begins, is_blank, is_in_line, comment, close_len, stamp_len, named, mark_front, other};
+ghost use Rattle.vale_syntax.specs.Tokens.{front, begins, is_blank, is_in_line, comment, close_len, stamp_len, named, mark_at, mark_front, other};
 ghost use Rattle.vale_lexer.specs.Lexes.{Fits};
 
 use crate::class::{Class, run_len};
 use crate::number::number;
-use vale_syntax::{Front, MARKS, NotAToken, TokenKind};
+use vale_syntax::{Front, MARKS, Mark, NotAToken, TokenKind};
 use x64_syntax::{is_digit, is_name_part};
 
 /// What stands at the front: a blank or comment, else the longest token that begins there.
@@ -105,12 +104,12 @@ fn close_len(bytes: &[u8]) -> Option<usize>
     None
 }
 
-fn mark(marks: &[&str], bytes: &[u8]) -> Front
-    ensures { result ≡ mark_front (find (λ mark. begins mark bytes.now) (map (λ mark. mark.now) marks.now)) }
+fn mark(marks: &[(&str, Mark)], bytes: &[u8]) -> Front
+    ensures { result ≡ mark_front (mark_at (map (λ m. (m.0.now, m.1)) marks.now) bytes.now) }
 {
-    for mark in marks {
-        if begins(bytes, mark.as_bytes()) {
-            return Front::Taken(TokenKind::Mark, mark.len());
+    for (text, mark) in marks {
+        if begins(bytes, text.as_bytes()) {
+            return Front::Taken(TokenKind::Mark(*mark), text.len());
         }
     }
     Front::Stopped(NotAToken::BadByte)

@@ -124,7 +124,7 @@ mod tests {
                 TokenKind::Int(_) => "i",
                 TokenKind::Word(_) => "w",
                 TokenKind::Wide(_) => "v",
-                TokenKind::Mark => "m",
+                TokenKind::Mark(_) => "m",
             };
             shown.push_str(kind)?;
             shown.push_str(String::from_utf8_lossy(alloc, token.text.as_bytes())?.as_str())?;

@@ -10,7 +10,8 @@ use Rattle.vale_syntax.specs.declared.token.NotAToken.TheVariants.{BadByte, Numb
 use Rattle.vale_syntax.specs.declared.token.Front.{Front}
 use Rattle.vale_syntax.specs.declared.token.Front.TheVariants.{Skipped, Taken, Stopped}
 use Rattle.vale_syntax.specs.declared.token.Token.{Token}
-use Rattle.vale_syntax.specs.declared.token.TheConstants.{MARKS}
+use Rattle.vale_syntax.specs.declared.mark.Mark.{Mark as AMark}
+use Rattle.vale_syntax.specs.declared.mark.TheConstants.{MARKS}
 
 -- the text begins with this one
 abbrev pub begins : List ℕ → List ℕ → Bool
@@ -89,23 +90,28 @@ number_of (suc m) bytes = suffixed (value 16 (take (suc m) (drop 2 bytes))) (suc
 abbrev pub number : List ℕ → Front
 number bytes = number_of (hex_len bytes) bytes
 
-abbrev pub marks : List (List ℕ)
-marks = map (λ mark. mark.now) MARKS
+-- the marks, with how each is written
+abbrev pub marks : List (List ℕ × AMark)
+marks = map (λ m. (m.0.now, m.1)) MARKS
+
+-- the first of some marks that the text begins with
+abbrev pub mark_at : List (List ℕ × AMark) → List ℕ → Option (List ℕ × AMark)
+mark_at ms bytes = find (λ m. begins m.0 bytes) ms
 
 -- the length of a mark that was found
-abbrev pub mark_len : Option (List ℕ) → ℕ
+abbrev pub mark_len : Option (List ℕ × AMark) → ℕ
 mark_len None = 0
-mark_len (Some mark) = length mark
+mark_len (Some m) = length m.0
 
-abbrev pub mark_front : Option (List ℕ) → Front
+abbrev pub mark_front : Option (List ℕ × AMark) → Front
 mark_front None = Stopped BadByte
-mark_front (Some mark) = Taken Mark (length mark)
+mark_front (Some m) = Taken (Mark m.1) (length m.0)
 
 abbrev pub other : List ℕ → Front
 other bytes =
     if begins (codes "//") bytes then Skipped (prefix_len is_in_line bytes)
     else if begins (codes "/*") bytes then comment (close_len (drop 2 bytes))
-    else mark_front (find (λ mark. begins mark bytes) marks)
+    else mark_front (mark_at marks bytes)
 
 -- what stands at the front: a blank or comment, else the longest token that begins there
 abbrev pub front : List ℕ → Front

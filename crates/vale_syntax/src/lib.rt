@@ -2,9 +2,11 @@
 #![tactic(auto)]
 
 mod laws;
+mod mark;
 mod spot;
 mod token;
 
 pub use laws::longest_mark;
 pub use spot::Spot;
-pub use token::{Front, MARKS, NotAToken, Token, TokenKind};
+pub use mark::{BinaryOp, MARKS, Mark, UnaryOp};
+pub use token::{Front, NotAToken, Token, TokenKind};

@@ -1,5 +1,6 @@
 // Tokens.
 
+use crate::mark::Mark;
 use crate::spot::Spot;
 use x64_syntax::Text;
 
@@ -17,7 +18,7 @@ pub enum TokenKind {
     /// A word of 128 bits, as `1v`.
     Wide(u128),
     /// One of the marks, as `:=`.
-    Mark,
+    Mark(Mark),
 }
 
 /// A token: what it is, its bytes, and where it begins.
@@ -49,9 +50,3 @@ pub enum Front {
     /// Nothing that a text may have here.
     Stopped(NotAToken),
 }
-
-/// The marks. A mark stands before those that it begins with, so that the first that fits is the longest.
-pub const MARKS: [&str; 25] = [
-    "==>", ":=", "==", "!=", "<=", ">=", "&&", "||", "(", ")", "[", "]", "{", "}", ",", ";", ":",
-    "=", "<", ">", "+", "-", "*", "!", "@",
-];

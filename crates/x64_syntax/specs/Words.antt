@@ -1,10 +1,12 @@
 -- Which texts are names, and which names a source may not declare.
-use Rattle.std.specs.Prelude.{ℕ, List, length, take, drop, Bool, not, ◌&&◌, ◌||◌, ◌==◌, nat_lt, nat_le, codes, slice_index, map}
-use Rattle.std.specs.List.{list_any, list_all}
+use Rattle.std.specs.Prelude.{ℕ, List, length, take, drop, Bool, not, ◌&&◌, ◌||◌, ◌==◌, nat_lt, nat_le, codes, slice_index, map, Option, option_map}
+use Rattle.std.specs.List.{find, list_any, list_all}
 use Rattle.std.specs.Str.{bytes_eq, str_eq_ignore_ascii_case}
 use Rattle.x64_syntax.specs.declared.words.Case.{Case}
 use Rattle.x64_syntax.specs.declared.words.Case.TheVariants.{Exact, Ignored}
-use Rattle.x64_syntax.specs.declared.words.TheConstants.{KEYWORDS, KINDS, PLACES, BUILT_IN, INSTRUCTIONS, MNEMONICS, ASSEMBLER_WORDS, EXPORT_NAME_LIMIT}
+use Rattle.x64_syntax.specs.declared.keywords.Keyword.{Keyword}
+use Rattle.x64_syntax.specs.declared.keywords.TheConstants.{KEYWORDS}
+use Rattle.x64_syntax.specs.declared.words.TheConstants.{KINDS, PLACES, BUILT_IN, INSTRUCTIONS, MNEMONICS, ASSEMBLER_WORDS, EXPORT_NAME_LIMIT}
 
 abbrev pub is_digit_byte : ℕ → Bool
 is_digit_byte b = nat_le 48 b && nat_le b 57
@@ -32,8 +34,19 @@ is_numbered_word case prefix word = nat_lt (length prefix) (length word) && same
 abbrev pub among : Case → List (List ℕ) → List ℕ → Bool
 among case words name = list_any (λ w. same_text case w name) words
 
-unfoldable pub keywords : List (List ℕ)
-keywords = map (λ w. w.now) KEYWORDS
+-- the keywords, with how each is written
+unfoldable pub keywords : List (List ℕ × Keyword)
+keywords = map (λ w. (w.0.now, w.1)) KEYWORDS
+
+abbrev pub among_keywords : Case → List (List ℕ × Keyword) → List ℕ → Bool
+among_keywords case words name = list_any (λ w. same_text case w.0 name) words
+
+-- the keyword that is written so
+abbrev pub keyword_in : List (List ℕ × Keyword) → List ℕ → Option Keyword
+keyword_in words name = option_map (λ w. w.1) (find (λ w. bytes_eq w.0 name) words)
+
+abbrev pub keyword_of : List ℕ → Option Keyword
+keyword_of name = keyword_in keywords name
 
 unfoldable pub kinds : List (List ℕ)
 kinds = map (λ w. w.now) KINDS
@@ -56,7 +69,7 @@ assembler_words = map (λ w. w.now) ASSEMBLER_WORDS
 -- what nothing may be declared under
 unfoldable pub is_reserved_word : Case → List ℕ → Bool
 is_reserved_word case name =
-    among case keywords name || among case kinds name || among case places name || among case built_in name
+    among_keywords case keywords name || among case kinds name || among case places name || among case built_in name
     || among case instructions name || is_numbered_word case (codes "slot") name
 
 abbrev pub is_reserved_name : List ℕ → Bool

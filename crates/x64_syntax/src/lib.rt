@@ -4,6 +4,7 @@
 
 mod instructions;
 mod items;
+mod keywords;
 mod names;
 mod operands;
 mod place_set;
@@ -13,6 +14,7 @@ mod words;
 
 pub use instructions::{AluOp, Ins};
 pub use items::{Cond, Item};
+pub use keywords::{KEYWORDS, Keyword, keyword_named};
 pub use names::{flag_named, reg_named, xmm_named};
 pub use operands::{Mem, Opr};
 pub use place_set::PlaceSet;

@@ -2,7 +2,9 @@
 
 ghost use Rattle.std.specs.Prelude.{◌≡◌};
 ghost use Rattle.std.specs.List.{list_all, list_any};
-ghost use Rattle.x64_syntax.specs.Words.{same_text, among, is_digit_byte, is_letter_byte, is_name_byte, is_name_text, is_numbered_word, keywords, kinds, places, built_in, instructions, mnemonics, assembler_words, is_reserved_word, is_reserved_name, is_refused_export, is_export_text};
+ghost use Rattle.x64_syntax.specs.Words.{same_text, among, among_keywords, is_digit_byte, is_letter_byte, is_name_byte, is_name_text, is_numbered_word, keywords, kinds, places, built_in, instructions, mnemonics, assembler_words, is_reserved_word, is_reserved_name, is_refused_export, is_export_text};
+
+use crate::keywords::{KEYWORDS, Keyword};
 
 /// Whether upper and lower case are told apart.
 #[derive(Clone, Copy, Debug, PartialEq, Eq)]
@@ -10,38 +12,6 @@ pub(crate) enum Case {
     Exact,
     Ignored,
 }
-
-/// Words with a meaning in the grammar.
-pub const KEYWORDS: [&str; 28] = [
-    "procedure",
-    "lemma",
-    "function",
-    "export",
-    "reads",
-    "modifies",
-    "requires",
-    "ensures",
-    "stack",
-    "abi",
-    "assert",
-    "ghost",
-    "if",
-    "else",
-    "while",
-    "invariant",
-    "decreases",
-    "inline",
-    "secret",
-    "block",
-    "in",
-    "out",
-    "inout",
-    "true",
-    "false",
-    "prev",
-    "zero",
-    "step",
-];
 
 /// The sorts, the kinds of operands and the calling conventions.
 pub const KINDS: [&str; 10] = [
@@ -261,9 +231,17 @@ fn is_reserved_in(case: Case, name: &[u8]) -> bool
 
 #[tactic(auto, unfolding(crate::specs::Words::keywords))]
 fn is_keyword(case: Case, name: &[u8]) -> bool
-    ensures { result ≡ among case keywords name.now }
+    ensures { result ≡ among_keywords case keywords name.now }
 {
-    is_among(&KEYWORDS, case, name)
+    is_among_keywords(&KEYWORDS, case, name)
+}
+
+fn is_among_keywords(words: &[(&str, Keyword)], case: Case, name: &[u8]) -> bool
+    ensures { result ≡ list_any (λ word. same_text case word.0.now name.now) words.now }
+{
+    words
+        .iter()
+        .any(|word| is_same(case, word.0.as_bytes(), name))
 }
 
 #[tactic(auto, unfolding(crate::specs::Words::kinds))]

@@ -1,7 +1,6 @@
 use Rattle.std.proofs.Common.{◌≡◌, drop, map}
-use Rattle.std.specs.List.{find}
-use Rattle.vale_syntax.specs.Tokens.{begins}
+use Rattle.vale_syntax.specs.Tokens.{mark_at}
 use Rattle.vale_lexer.proofs.front.mark.Given as goal
 
-abbrev pub invariant-loop-mark : goal.invariant-loop-mark
-invariant-loop-mark l = find (λ mark. begins mark l.bytes) (map (λ mark. mark.now) (drop l.mark-index l.marks)) ≡ find (λ mark. begins mark l.bytes) (map (λ mark. mark.now) l.marks)
+abbrev pub invariant-loop-text : goal.invariant-loop-text
+invariant-loop-text l = mark_at (map (λ m. (m.0.now, m.1)) (drop l.text-index l.marks)) l.bytes ≡ mark_at (map (λ m. (m.0.now, m.1)) l.marks) l.bytes

@@ -1,0 +1,101 @@
+// The words with a meaning in the grammar.
+
+ghost use Rattle.std.specs.Prelude.{◌≡◌, map};
+ghost use Rattle.x64_syntax.specs.Words.{keyword_in, keyword_of};
+
+/// A word with a meaning in the grammar.
+#[derive(Clone, Copy, Debug, PartialEq, Eq)]
+pub enum Keyword {
+    Procedure,
+    Lemma,
+    Function,
+    Export,
+    Reads,
+    Modifies,
+    Requires,
+    Ensures,
+    Stack,
+    Abi,
+    Assert,
+    Ghost,
+    If,
+    Else,
+    While,
+    Invariant,
+    Decreases,
+    Inline,
+    Secret,
+    Block,
+    In,
+    Out,
+    InOut,
+    True,
+    False,
+    Prev,
+    Zero,
+    Step,
+}
+
+/// The keywords, with how each is written.
+pub const KEYWORDS: [(&str, Keyword); 28] = [
+    ("procedure", Keyword::Procedure),
+    ("lemma", Keyword::Lemma),
+    ("function", Keyword::Function),
+    ("export", Keyword::Export),
+    ("reads", Keyword::Reads),
+    ("modifies", Keyword::Modifies),
+    ("requires", Keyword::Requires),
+    ("ensures", Keyword::Ensures),
+    ("stack", Keyword::Stack),
+    ("abi", Keyword::Abi),
+    ("assert", Keyword::Assert),
+    ("ghost", Keyword::Ghost),
+    ("if", Keyword::If),
+    ("else", Keyword::Else),
+    ("while", Keyword::While),
+    ("invariant", Keyword::Invariant),
+    ("decreases", Keyword::Decreases),
+    ("inline", Keyword::Inline),
+    ("secret", Keyword::Secret),
+    ("block", Keyword::Block),
+    ("in", Keyword::In),
+    ("out", Keyword::Out),
+    ("inout", Keyword::InOut),
+    ("true", Keyword::True),
+    ("false", Keyword::False),
+    ("prev", Keyword::Prev),
+    ("zero", Keyword::Zero),
+    ("step", Keyword::Step),
+];
+
+/// The keyword that is written so.
+#[tactic(auto, unfolding(crate::specs::Words::keywords))]
+pub fn keyword_named(name: &[u8]) -> Option<Keyword>
+    ensures { result ≡ keyword_of name.now }
+{
+    keyword_among(&KEYWORDS, name)
+}
+
+fn keyword_among(keywords: &[(&str, Keyword)], name: &[u8]) -> Option<Keyword>
+    ensures { result ≡ keyword_in (map (λ w. (w.0.now, w.1)) keywords.now) name.now }
+{
+    for (word, keyword) in keywords {
+        if word.as_bytes() == name {
+            return Some(*keyword);
+        }
+    }
+    None
+}
+
+#[cfg(test)]
+mod tests {
+    use super::*;
+
+    #[test]
+    fn tells_keywords_from_other_names(rt: HostRuntime) {
+        assert_eq!(rt; keyword_named(b"inout"), Some(Keyword::InOut));
+        assert_eq!(rt; keyword_named(b"step"), Some(Keyword::Step));
+        assert_eq!(rt; keyword_named(b"Step"), None);
+        assert_eq!(rt; keyword_named(b"steps"), None);
+    }
+}
