@@ -1,1 +1,5 @@
+pub mod Complete
+pub mod Grows
 pub mod Marks
+pub mod Reading
+pub mod Sound

@@ -1,2 +1,6 @@
+pub mod Expressions
 pub mod Operators
+pub mod Parse
+pub mod Peek
 pub mod Tokens
+pub mod Trees

@@ -1,11 +1,27 @@
-// Laws over the definition of tokens.
+// Laws over the definitions of tokens and expressions.
 
-ghost use Rattle.std.specs.Prelude.{◌≡◌, ◌≤◌, true, List, ℕ, length};
+ghost use Rattle.std.specs.Prelude.{◌≡◌, ◌≤◌, true, List, [], ℕ, length, Some};
 ghost use Rattle.std.specs.List.{AllByRecursion};
 ghost use Rattle.vale_syntax.specs.Tokens.{begins, marks, mark_at, mark_len};
+ghost use Rattle.vale_syntax.specs.declared.token.Token.{Token};
+ghost use Rattle.vale_syntax.specs.Operators.{any};
+ghost use Rattle.vale_syntax.specs.Trees.{Ex};
+ghost use Rattle.vale_syntax.specs.Expressions.{Spells, IsExpr};
+ghost use Rattle.vale_syntax.specs.Parse.{read};
 
 /// No mark is empty, and the mark that is taken is the longest: no mark that begins a text is longer than the first of the table that does.
 pub fn longest_mark()
     ensures some { AllByRecursion (λ m. 1 ≤ length m.0) marks }
     ensures longest { (bytes : List ℕ) → AllByRecursion (λ m. begins m.0 bytes ≡ true → length m.0 ≤ mark_len (mark_at marks bytes)) marks }
+{}
+
+/// No list of tokens spells two expressions, whatever their depth.
+pub fn spelled_once()
+    ensures { (d e : ℕ) (ts : List Token) (x y : Ex) → Spells any d ts x [] → Spells any e ts y [] → (x ≡ y) × (d ≡ e) }
+{}
+
+/// What is read by looking ahead is what the tokens spell.
+pub fn read_as_spelled()
+    ensures sound { (ts : List Token) (x : Ex) → read ts ≡ Some x → IsExpr ts x }
+    ensures complete { (ts : List Token) (x : Ex) → IsExpr ts x → read ts ≡ Some x }
 {}

@@ -1,12 +1,16 @@
 //! The source language: places in files and tokens, with the definition of which tokens a text has.
 #![tactic(auto)]
 
+mod expr;
 mod laws;
+mod lookahead;
 mod mark;
 mod spot;
 mod token;
 
-pub use laws::longest_mark;
+pub use expr::{Expr, Name};
+pub use laws::{longest_mark, read_as_spelled, spelled_once};
+pub use lookahead::{Lookahead, peek};
 pub use spot::Spot;
 pub use mark::{BinaryOp, MARKS, Mark, UnaryOp};
 pub use token::{Front, NotAToken, Token, TokenKind};
