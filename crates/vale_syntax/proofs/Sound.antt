@@ -1,6 +1,6 @@
 -- What looking ahead finds is spelled.
 use Rattle.std.proofs.Common.{◌≡◌, ℕ, zero, suc, ◌+◌, ◌<◌, ◌≤◌, max, Bool, true, false, cond, List, drop, length, Option, Some, None, refl, sym, ◌∙◌, ap, subst, arith}
-use Rattle.std.specs.Prelude.{◌==◌, nat_le, pos, neg_ℤ}
+use Rattle.std.specs.Prelude.{◌==◌, nat_le, ℤ, neg_ℤ}
 use Rattle.std.proofs.lemmas.Bool.{leb-true, eqb-true}
 use Rattle.vale_syntax.specs.declared.token.Token.{Token}
 use Rattle.vale_syntax.specs.declared.spot.Spot.{Spot}
@@ -169,9 +169,9 @@ atom_sound sub b ts g sound (see.Mark mark.RoundOpen) e h =
 atom_sound sub b ts g sound see.Name e h = named_sound sub b ts g sound e (peek (drop 1 ts)) refl h
 atom_sound sub b ts g sound _ e h = alone_sound b ts g (leaf ts) refl h
 
-minus_sound : (sub : Parser) (b : ℕ) (ts : List Token) (g : Got) → IsSound b sub → peek ts ≡ see.Mark (mark.Binary Sub) → (o : Option ℕ) → negated ts ≡ o → minus_by sub o ts ≡ Some g → UnaryTo b ts g
+minus_sound : (sub : Parser) (b : ℕ) (ts : List Token) (g : Got) → IsSound b sub → peek ts ≡ see.Mark (mark.Binary Sub) → (o : Option ℤ) → negated ts ≡ o → minus_by sub o ts ≡ Some g → UnaryTo b ts g
 unfolding UnaryTo IsSound
-minus_sound sub b ts g sound e (Some n) i h = subst (UnaryTo b ts) (same (got (Int (spot_of ts) (neg_ℤ (pos n))) 1 (drop 2 ts)) g h) (omega arith, negative e i)
+minus_sound sub b ts g sound e (Some z) i h = subst (UnaryTo b ts) (same (got (Int (spot_of ts) (neg_ℤ z)) 1 (drop 2 ts)) g h) (omega arith, negative e i)
 minus_sound sub b ts g sound e None i h =
     let (y, p, q) = bind_some (sub 0 (drop 1 ts)) (under (spot_of ts) Neg) g h in
     let part = sound 0 (drop 1 ts) y p in

@@ -1,5 +1,5 @@
 -- Which tokens spell which expression. Each relation hands on the tokens that are left behind the thing that it speaks of, and says the thing's depth exactly.
-use Rattle.std.specs.Prelude.{◌≡◌, ℕ, suc, ◌≤◌, max, pos, neg_ℤ, List, [], drop, Option, Some, None}
+use Rattle.std.specs.Prelude.{◌≡◌, ℕ, suc, ◌^◌, ◌≤◌, nat_lt, max, ℤ, pos, neg_ℤ, List, [], drop, Option, Some, None, if◌then◌else◌}
 use Rattle.x64_syntax.specs.declared.keywords.Keyword.TheVariants as word
 use Rattle.vale_syntax.specs.declared.spot.Spot.{Spot}
 use Rattle.vale_syntax.specs.declared.token.Token.{Token}
@@ -18,9 +18,17 @@ use Rattle.vale_syntax.specs.Trees.{Ex, Exs, none, more, with_last, Int, Word, W
 abbrev pub name_of : List Token → AName
 name_of ts = record { text = text_of ts; spot = spot_of ts }
 
+-- a whole number that a token may be
+abbrev pub whole : ℕ → Option ℤ
+whole n = if nat_lt n (2 ^ 127) then Some (pos n) else None
+
+abbrev pub whole_at : Spot → Option ℤ → Option Ex
+whole_at s None = None
+whole_at s (Some z) = Some (Int s z)
+
 -- the expression that a token is by itself
 abbrev pub leaf_by : Lookahead → List Token → Option Ex
-leaf_by (see.Int n) ts = Some (Int (spot_of ts) (pos n))
+leaf_by (see.Int n) ts = whole_at (spot_of ts) (whole n)
 leaf_by (see.Word n) ts = Some (Word (spot_of ts) n)
 leaf_by (see.Wide n) ts = Some (Wide (spot_of ts) n)
 leaf_by (see.Keyword word.True) ts = Some (True (spot_of ts))
@@ -34,13 +42,13 @@ unfoldable pub leaf : List Token → Option Ex
 leaf ts = leaf_by (peek ts) ts
 
 -- behind a `-`: the number that directly follows, where no index is asked of it
-abbrev pub counted : Lookahead → Lookahead → Option ℕ
+abbrev pub counted : Lookahead → Lookahead → Option ℤ
 counted (see.Int n) (see.Mark mark.SquareOpen) = None
-counted (see.Int n) _ = Some n
+counted (see.Int n) _ = whole n
 counted _ _ = None
 
 -- the number that a `-` makes negative
-unfoldable pub negated : List Token → Option ℕ
+unfoldable pub negated : List Token → Option ℤ
 negated ts = counted (peek (drop 1 ts)) (peek (drop 2 ts))
 
 mutual
@@ -48,8 +56,8 @@ mutual
   pub data Spells : ℕ → ℕ → List Token → Ex → List Token → Type 0 where
     not_ : {d : ℕ} {ts : List Token} {x : Ex} {rest : List Token} → peek ts ≡ see.Mark mark.Bang
         → Spells 0 d (drop 1 ts) x rest → Spells 0 (suc d) ts (Unary (spot_of ts) Not x) rest
-    negative : {n : ℕ} {ts : List Token} → peek ts ≡ see.Mark (mark.Binary Sub) → negated ts ≡ Some n
-        → Spells 0 1 ts (Int (spot_of ts) (neg_ℤ (pos n))) (drop 2 ts)
+    negative : {z : ℤ} {ts : List Token} → peek ts ≡ see.Mark (mark.Binary Sub) → negated ts ≡ Some z
+        → Spells 0 1 ts (Int (spot_of ts) (neg_ℤ z)) (drop 2 ts)
     minus : {d : ℕ} {ts : List Token} {x : Ex} {rest : List Token} → peek ts ≡ see.Mark (mark.Binary Sub) → negated ts ≡ None
         → Spells 0 d (drop 1 ts) x rest → Spells 0 (suc d) ts (Unary (spot_of ts) Neg x) rest
     postfix : {d e : ℕ} {ts mid : List Token} {x y : Ex} {rest : List Token}

@@ -1,5 +1,5 @@
 -- The expression that tokens begin with, found by looking ahead; `expression_law` says that it is the one that they spell.
-use Rattle.std.specs.Prelude.{ℕ, zero, suc, max, pos, neg_ℤ, nat_le, ◌==◌, List, [], ◌∷◌, length, drop, Option, Some, None, if◌then◌else◌}
+use Rattle.std.specs.Prelude.{ℕ, zero, suc, max, ℤ, neg_ℤ, nat_le, ◌==◌, List, [], ◌∷◌, length, drop, Option, Some, None, if◌then◌else◌}
 use Rattle.vale_syntax.specs.declared.spot.Spot.{Spot}
 use Rattle.vale_syntax.specs.declared.token.Token.{Token}
 use Rattle.vale_syntax.specs.declared.mark.BinaryOp.{BinaryOp}
@@ -53,8 +53,16 @@ abbrev pub bracketed : Lookahead → Got → Option Got
 bracketed (see.Mark mark.RoundClose) g = Some (got g.tree (suc g.height) (drop 1 g.rest))
 bracketed _ g = None
 
+-- an expression in round brackets
+abbrev pub round : Parser → List Token → Option Got
+round sub ts = sub any (drop 1 ts) >>= λ g. bracketed (peek g.rest) g
+
 abbrev pub under : Spot → UnaryOp → Got → Option Got
 under s o g = Some (got (Unary s o g.tree) (suc g.height) g.rest)
+
+-- an operator and the expression behind it
+abbrev pub prefixed : Parser → UnaryOp → List Token → Option Got
+prefixed sub o ts = sub 0 (drop 1 ts) >>= under (spot_of ts) o
 
 -- where the closing bracket of an index stands
 abbrev pub squared : {A : Type 0} → Lookahead → Option A → Option A
@@ -83,7 +91,7 @@ named_by sub (see.Mark mark.RoundOpen) ts = arguments sub (drop 2 ts) >>= λ g. 
 named_by sub _ ts = alone (leaf ts) ts
 
 abbrev pub atom_by : Parser → Lookahead → List Token → Option Got
-atom_by sub (see.Mark mark.RoundOpen) ts = sub any (drop 1 ts) >>= λ g. bracketed (peek g.rest) g
+atom_by sub (see.Mark mark.RoundOpen) ts = round sub ts
 atom_by sub see.Name ts = named_by sub (peek (drop 1 ts)) ts
 atom_by sub _ ts = alone (leaf ts) ts
 
@@ -100,12 +108,12 @@ indexed sub b zero s g = Some g
 indexed sub b (suc n) s g = indexed_by (peek g.rest) b g (sub any (drop 1 g.rest) >>= λ h.
     squared (peek h.rest) (indexed sub b n s (got (Index s g.tree h.tree) (suc (max g.height h.height)) (drop 1 h.rest))))
 
-abbrev pub minus_by : Parser → Option ℕ → List Token → Option Got
-minus_by sub (Some n) ts = Some (got (Int (spot_of ts) (neg_ℤ (pos n))) 1 (drop 2 ts))
-minus_by sub None ts = sub 0 (drop 1 ts) >>= under (spot_of ts) Neg
+abbrev pub minus_by : Parser → Option ℤ → List Token → Option Got
+minus_by sub (Some z) ts = Some (got (Int (spot_of ts) (neg_ℤ z)) 1 (drop 2 ts))
+minus_by sub None ts = prefixed sub Neg ts
 
 abbrev pub unary_by : Parser → ℕ → Lookahead → List Token → Option Got
-unary_by sub b (see.Mark mark.Bang) ts = sub 0 (drop 1 ts) >>= under (spot_of ts) Not
+unary_by sub b (see.Mark mark.Bang) ts = prefixed sub Not ts
 unary_by sub b (see.Mark (mark.Binary Sub)) ts = minus_by sub (negated ts) ts
 unary_by sub b _ ts = atom sub ts >>= indexed sub b (suc b) (spot_of ts)
 

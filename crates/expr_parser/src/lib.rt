@@ -1,0 +1,11 @@
+//! Expressions from tokens: exactly those that the grammar spells.
+#![tactic(auto)]
+
+mod fault;
+mod lists;
+mod nodes;
+mod parser;
+
+pub use fault::ExprFault;
+pub use parser::read_expr;
+
