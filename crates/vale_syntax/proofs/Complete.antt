@@ -28,7 +28,7 @@ loose (see.Mark mark.SquareOpen) = 1
 loose (see.Mark (mark.Binary o)) = suc (rank_of o)
 loose _ = 8
 
-rank_some : (o : BinaryOp) → 1 ≤ rank_of o
+pub rank_some : (o : BinaryOp) → 1 ≤ rank_of o
 rank_some op.Mul = omega arith
 rank_some op.Add = omega arith
 rank_some op.Sub = omega arith
