@@ -8,6 +8,7 @@ ghost use Rattle.vale_syntax.specs.Operators.{any};
 ghost use Rattle.vale_syntax.specs.Trees.{Ex};
 ghost use Rattle.vale_syntax.specs.Expressions.{Spells, IsExpr};
 ghost use Rattle.vale_syntax.specs.Parse.{read};
+ghost use Rattle.vale_syntax.specs.Print.{text, IsWritable, IsTextOf};
 
 /// No mark is empty, and the mark that is taken is the longest: no mark that begins a text is longer than the first of the table that does.
 pub fn longest_mark()
@@ -24,4 +25,9 @@ pub fn spelled_once()
 pub fn read_as_spelled()
     ensures sound { (ts : List Token) (x : Ex) → read ts ≡ Some x → IsExpr ts x }
     ensures complete { (ts : List Token) (x : Ex) → IsExpr ts x → read ts ≡ Some x }
+{}
+
+/// What an expression that some text spells is printed as spells it.
+pub fn printed_as_spelled()
+    ensures { (x : Ex) → IsWritable x → (file : ℕ) → IsTextOf file (text x) x }
 {}

@@ -5,12 +5,14 @@ mod expr;
 mod laws;
 mod lookahead;
 mod mark;
+mod print;
 mod spot;
 mod token;
 
 pub use expr::{Expr, Name};
-pub use laws::{longest_mark, read_as_spelled, spelled_once};
+pub use laws::{longest_mark, printed_as_spelled, read_as_spelled, spelled_once};
 pub use lookahead::{Lookahead, peek};
+pub use print::print_expr;
 pub use spot::Spot;
 pub use mark::{BinaryOp, MARKS, Mark, UnaryOp};
 pub use token::{Front, NotAToken, Token, TokenKind};
