@@ -4,5 +4,7 @@ pub mod Lexing
 pub mod Marks
 pub mod Pieces
 pub mod Printed
+pub mod Proper
 pub mod Reading
 pub mod Sound
+pub mod Writable

@@ -27,7 +27,8 @@ pub fn read_as_spelled()
     ensures complete { (ts : List Token) (x : Ex) → IsExpr ts x → read ts ≡ Some x }
 {}
 
-/// What an expression that some text spells is printed as spells it.
+/// The expressions that some text spells, places aside, are the writable ones, and what each is printed as spells it.
 pub fn printed_as_spelled()
-    ensures { (x : Ex) → IsWritable x → (file : ℕ) → IsTextOf file (text x) x }
+    ensures writable { (x : Ex) (file : ℕ) (bytes : List ℕ) → IsTextOf file bytes x → IsWritable x }
+    ensures text { (x : Ex) → IsWritable x → (file : ℕ) → IsTextOf file (text x) x }
 {}
