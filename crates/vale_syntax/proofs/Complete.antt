@@ -259,6 +259,7 @@ part_found ts deep found (suc b) k l = found b k l
 
 mutual
   unfolding ranked unary atom leaf arguments others loose
+
   spells_found : {r d : ℕ} {ts : List Token} {x : Ex} {rest : List Token} → Spells r d ts x rest → (b : ℕ) → d ≤ suc b → suc r < loose (peek rest) → ranked (parse b) b r ts ≡ Some (got x d rest)
   spells_found (not_ {ts = ts} {x = x} {rest = rest} p h) b k l =
       ap (λ f. unary_by (parse b) b f ts) p ∙ bound (parse b 0 (drop 1 ts)) _ (under (spot_of ts) Not) _ (part_found _ (spells_deep h) (spells_found h) b (omega (arith, k)) l) refl
@@ -271,12 +272,12 @@ mutual
       let deep = atom_deep a in
       unary_atom (parse b) b (peek ts) ts (starts_atom a)
       ∙ bound (atom (parse b) ts) (got x d mid) (indexed (parse b) b (suc b) (spot_of ts)) _ (atom_found a b (omega (arith, g, k)) (behind_indexed i l))
-          (indexed_found i b (suc b) k (omega (arith, deep)) l)
+      (indexed_found i b (suc b) k (omega (arith, deep)) l)
   spells_found (operations {r = r} {d = d} {ts = ts} {mid = mid} {x = x} h t) b k l =
       let g = chain_grows t in
       let deep = spells_deep h in
       bound (ranked (parse b) b r ts) (got x d mid) (chain (parse b) b (suc b) (suc r) (spot_of ts)) _ (spells_found h b (omega (arith, g, k)) (behind_left t l))
-          (chain_found t b (suc b) k (omega (arith, deep)) l)
+      (chain_found t b (suc b) k (omega (arith, deep)) l)
 
   chain_found : {r : ℕ} {s : Spot} {d : ℕ} {x : Ex} {ts : List Token} {e : ℕ} {y : Ex} {rest : List Token} → Chain r s d x ts e y rest → (b n : ℕ) → e ≤ suc b → suc (suc b) ≤ n + d → suc r < loose (peek rest)
       → chain (parse b) b n r s (got x d ts) ≡ Some (got y e rest)
@@ -315,7 +316,7 @@ mutual
       let g = others_grow t in
       arguments_some (parse b) (peek ts) ts (starts h)
       ∙ bound (parse b any ts) (got x d mid) (λ g. others (parse b) (length ts) (more g.tree none) g.height g.rest) _ (part_found _ (spells_deep h) (spells_found h) b (omega (arith, g, k)) (behind_argument t))
-          (others_found t b (length ts) k (spells_short h))
+      (others_found t b (length ts) k (spells_short h))
 
   others_found : {d : ℕ} {xs : Exs} {ts : List Token} {e : ℕ} {ys : Exs} {rest : List Token} → Others d xs ts e ys rest → (b n : ℕ) → e ≤ b → length ts ≤ n → others (parse b) n xs d ts ≡ Some (got_list ys e rest)
   others_found (others_end {ts = ts} p) b zero k m = let g = mark_some ts mark.RoundClose p in absurd (omega (arith, g, m))

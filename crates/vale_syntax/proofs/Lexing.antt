@@ -33,7 +33,7 @@ token_first file at kind (b ∷ bs) rest ts h some k =
     ap (λ f. on_front file at (b ∷ (bs ++ rest)) f (λ n. lexed file n (at + 1) (bs ++ rest))) h
     ∙ ap (λ t. with_token (token file at kind t) (lexed file (suc (length bs) - 1) (at + 1) (bs ++ rest))) (take_front (b ∷ bs) rest)
     ∙ ap (λ l. with_token (token file at kind (b ∷ bs)) l) (ap (λ n. lexed file n (at + 1) (bs ++ rest)) (less (length bs)) ∙ skip file (length bs) (at + 1) (bs ++ rest)
-        ∙ ap (λ n. lexed file 0 n (drop (length bs) (bs ++ rest))) (shift at (length bs)) ∙ ap (λ l. lexed file 0 (at + suc (length bs)) l) (drop_front bs rest) ∙ k)
+    ∙ ap (λ n. lexed file 0 n (drop (length bs) (bs ++ rest))) (shift at (length bs)) ∙ ap (λ l. lexed file 0 (at + suc (length bs)) l) (drop_front bs rest) ∙ k)
   where
     less : (n : ℕ) → suc n - 1 ≡ n
     less n = omega arith

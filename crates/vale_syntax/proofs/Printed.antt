@@ -89,10 +89,17 @@ spelled_at p r = raise 0 r _ _ _ _ (omega arith) (postfix p.atom p.indexed)
 leaf_posted : (file at : ℕ) (k : TokenKind) (piece rest : List ℕ) (ts : List Token) (x y : Ex) → front (piece ++ rest) ≡ Taken k (length piece) → 1 ≤ length piece → lexed file 0 (at + length piece) rest ≡ All ts
     → leaf (token_at file at k piece ∷ ts) ≡ Some y → bare y ≡ bare x → Posted file at (piece ++ rest) ts x
 leaf_posted file at k piece rest ts x y h some_ e l same = record {
-    tokens = token_at file at k piece ∷ ts;
-    lexes = token_first file at k piece rest ts h some_ e;
-    low = 1; mid = ts; core = y; atom = token l; depth = 1; tree = y; indexed = index_end; same = same;
-  }
+  tokens = token_at file at k piece ∷ ts;
+  lexes = token_first file at k piece rest ts h some_ e;
+  low = 1;
+  mid = ts;
+  core = y;
+  atom = token l;
+  depth = 1;
+  tree = y;
+  indexed = index_end;
+  same = same;
+}
 
 posted_written : (x : Ex) → PostedForm (text x) x → WrittenForm x
 unfolding PostedForm WrittenForm
@@ -124,9 +131,17 @@ round x f file at rest ts e =
 
 round_posted : (file at : ℕ) (bytes : List ℕ) (ts : List Token) (x : Ex) → Round file at bytes ts x → Posted file at bytes ts x
 round_posted file at bytes ts x r = record {
-    tokens = token_at file at (kind.Mark mark.RoundOpen) (codes "(") ∷ r.inner;
-    lexes = r.lexes; low = r.depth; mid = ts; core = r.tree; atom = r.atom; depth = r.depth; tree = r.tree; indexed = index_end; same = r.same;
-  }
+  tokens = token_at file at (kind.Mark mark.RoundOpen) (codes "(") ∷ r.inner;
+  lexes = r.lexes;
+  low = r.depth;
+  mid = ts;
+  core = r.tree;
+  atom = r.atom;
+  depth = r.depth;
+  tree = r.tree;
+  indexed = index_end;
+  same = r.same;
+}
 
 -- an operand, with brackets where it needs them
 operand : (x : Ex) → Both x → PostedForm (operand_text x) x
@@ -142,7 +157,7 @@ int_posted : (s : Spot) (n : ℕ) → n < 2 ^ 127 → PostedForm (text (Int s (p
 unfolding PostedForm text leaf peek bare
 int_posted s n h file at rest ts ends_ e =
     leaf_posted file at (kind.Int n) (decimal n) rest ts (Int s (pos n)) (Int (record { file = file; at = at }) (pos n)) (int_piece n rest h ends_) (decimal_some n (omega (arith, h))) e
-        (ap (λ t. whole_at (record { file = file; at = at }) (cond t (Some (pos n)) None)) (lt-ltb n (2 ^ 127) h)) refl
+    (ap (λ t. whole_at (record { file = file; at = at }) (cond t (Some (pos n)) None)) (lt-ltb n (2 ^ 127) h)) refl
 
 word_posted : (s : Spot) (n : ℕ) → n < 2 ^ 64 → PostedForm (text (Word s n)) (Word s n)
 unfolding PostedForm text leaf peek bare
@@ -183,7 +198,7 @@ free_posted : (n : AName) → IsFree n.text → PostedForm n.text (Name n)
 unfolding PostedForm leaf peek bare
 free_posted n f file at rest ts ends_ e =
     leaf_posted file at kind.Name n.text rest ts (Name n) (Name (record { text = n.text; spot = record { file = file; at = at } })) (name_piece n.text rest f.is_name ends_) (name_some n.text f.is_name) e
-        (rw f.no_keyword refl) refl
+    (rw f.no_keyword refl) refl
 
 stamped_posted : (n : AName) → IsStamped n.text → PostedForm n.text (Name n)
 unfolding PostedForm leaf peek bare
@@ -408,11 +423,11 @@ list_ends (more x xs) rest = refl
 none_listed : ListedForm none
 unfolding ListedForm list_text joined peek Free
 none_listed file at rest ts e = record {
-    tokens = token_at file at (kind.Mark mark.RoundClose) (codes ")") ∷ ts;
-    lexes = token_first file at (kind.Mark mark.RoundClose) (codes ")") rest ts refl (omega arith) (ap (λ k. lexed file 0 k rest) (same_place at) ∙ e);
-    free = λ n. refl;
-    behind = λ d sofar. record { depth = d; trees = sofar; others = others_end refl; same = ap bares (sym (joined_none sofar)) };
-  }
+  tokens = token_at file at (kind.Mark mark.RoundClose) (codes ")") ∷ ts;
+  lexes = token_first file at (kind.Mark mark.RoundClose) (codes ")") rest ts refl (omega arith) (ap (λ k. lexed file 0 k rest) (same_place at) ∙ e);
+  free = λ n. refl;
+  behind = λ d sofar. record { depth = d; trees = sofar; others = others_end refl; same = ap bares (sym (joined_none sofar)) };
+}
   where
     same_place : (at : ℕ) → at + 1 ≡ at + 0 + 1
     same_place at = omega arith
@@ -444,11 +459,11 @@ more_listed x xs f g file at rest ts e =
     later : (x : Ex) (xs : Exs) (e : ℕ) (y : Ex) → bare y ≡ bare x → (d : ℕ) (sofar : Exs) {us vs ts : List Token}
         → ((f : ℕ) (ys : Exs) → Others (max d e) (with_last sofar y) us f ys ts → Others d sofar vs f ys ts) → Tail (max d e) (with_last sofar y) us ts xs → Tail d sofar vs ts (more x xs)
     later x xs e y same d sofar before t = record {
-        depth = t.depth;
-        trees = t.trees;
-        others = before t.depth t.trees t.others;
-        same = t.same ∙ ap bares (joined_last sofar y xs) ∙ bares_joined sofar y x xs same;
-      }
+      depth = t.depth;
+      trees = t.trees;
+      others = before t.depth t.trees t.others;
+      same = t.same ∙ ap bares (joined_last sofar y xs) ∙ bares_joined sofar y x xs same;
+    }
 
 -- The arguments of a call, with the closing bracket.
 record Passed (file at : ℕ) (bytes : List ℕ) (ts : List Token) (xs : Exs) : Type 0 where
@@ -465,13 +480,13 @@ PassedForm xs = (file at : ℕ) (rest : List ℕ) (ts : List Token) → lexed fi
 none_passed : PassedForm none
 unfolding PassedForm list_text peek
 none_passed file at rest ts e = record {
-    tokens = token_at file at (kind.Mark mark.RoundClose) (codes ")") ∷ ts;
-    lexes = token_first file at (kind.Mark mark.RoundClose) (codes ")") rest ts refl (omega arith) (ap (λ k. lexed file 0 k rest) (same_place at) ∙ e);
-    depth = 0;
-    trees = none;
-    arguments = nothing refl;
-    same = refl;
-  }
+  tokens = token_at file at (kind.Mark mark.RoundClose) (codes ")") ∷ ts;
+  lexes = token_first file at (kind.Mark mark.RoundClose) (codes ")") rest ts refl (omega arith) (ap (λ k. lexed file 0 k rest) (same_place at) ∙ e);
+  depth = 0;
+  trees = none;
+  arguments = nothing refl;
+  same = refl;
+}
   where
     same_place : (at : ℕ) → at + 1 ≡ at + 0 + 1
     same_place at = omega arith
@@ -535,6 +550,7 @@ written_only x h f = ((λ k. absurd (false≢true (sym h ∙ k))), f)
 
 mutual
   unfolding IsWritable text Both
+
   both : (x : Ex) → IsWritable x → Both x
   both (Int s (pos n)) h = both_posted _ (int_posted s n h)
   both (Int s (negsuc n)) h = written_only _ refl (negative_written s n h)

@@ -101,13 +101,13 @@ stamp_proper bytes name n (c ∷ cs) h t d = by_test ((c == 46) && nat_lt 0 (pre
 
     stamped : (p : ℕ) → p ≡ prefix_len is_stamp_byte cs → c ≡ 46 → 0 < p → IsStamped (take (n + suc p) bytes)
     stamped p e f some = record {
-        name = name;
-        stamp = take p cs;
-        whole = parts p f;
-        is_name = h;
-        some = let size : length (take p cs) ≡ p = ap (λ k. length (take k cs)) e ∙ length-prefix_len is_stamp_byte cs ∙ sym e in omega (arith, size, some);
-        stamped = ap (λ k. list_all is_stamp_byte (take k cs)) e ∙ take_passes is_stamp_byte cs;
-      }
+      name = name;
+      stamp = take p cs;
+      whole = parts p f;
+      is_name = h;
+      some = let size : length (take p cs) ≡ p = ap (λ k. length (take k cs)) e ∙ length-prefix_len is_stamp_byte cs ∙ sym e in omega (arith, size, some);
+      stamped = ap (λ k. list_all is_stamp_byte (take k cs)) e ∙ take_passes is_stamp_byte cs;
+    }
 
     by_test : (b : Bool) → ((c == 46) && nat_lt 0 (prefix_len is_stamp_byte cs)) ≡ b → FrontProper bytes (name_front n (cond b (prefix_len is_stamp_byte cs + 1) 0))
     by_test false e = subst (λ l. is_name_text l ≡ true) (sym t) h

@@ -88,7 +88,7 @@ unfolding chain ChainTo
 chain_sound sub b zero r s d x ts g sound k h = subst (ChainTo b r s d x ts) (same (got x d ts) g h) (k, chain_end)
 chain_sound sub b (suc n) r s d x ts g sound k h =
     chain_step sub b r s d x ts g (λ o y. chain sub b n (again_of o) s (got (Binary s o x y.tree) (suc (max d y.height)) y.rest)) sound k
-        (λ o y l e. chain_sound sub b n (again_of o) s (suc (max d y.height)) (Binary s o x y.tree) y.rest g sound l e) h
+    (λ o y l e. chain_sound sub b n (again_of o) s (suc (max d y.height)) (Binary s o x y.tree) y.rest g sound l e) h
 
 index_step : (sub : Parser) (b : ℕ) (s : Spot) (d : ℕ) (x : Ex) (ts : List Token) (g : Got) (go : Got → Option Got) → IsSound b sub → d ≤ suc b
     → ((y : Got) → suc (max d y.height) ≤ suc b → go y ≡ Some g → IndexedTo b s (suc (max d y.height)) (Index s x y.tree) (drop 1 y.rest) g)
@@ -113,7 +113,7 @@ unfolding indexed IndexedTo
 indexed_sound sub b zero s d x ts g sound k h = subst (IndexedTo b s d x ts) (same (got x d ts) g h) (k, index_end)
 indexed_sound sub b (suc n) s d x ts g sound k h =
     index_step sub b s d x ts g (λ y. indexed sub b n s (got (Index s x y.tree) (suc (max d y.height)) (drop 1 y.rest))) sound k
-        (λ y l e. indexed_sound sub b n s (suc (max d y.height)) (Index s x y.tree) (drop 1 y.rest) g sound l e) (peek ts) refl h
+    (λ y l e. indexed_sound sub b n s (suc (max d y.height)) (Index s x y.tree) (drop 1 y.rest) g sound l e) (peek ts) refl h
 
 others_step : (sub : Parser) (b d : ℕ) (xs : Exs) (ts : List Token) (g : GotList) (go : Got → Option GotList) → IsSound b sub → d ≤ b
     → ((y : Got) → max d y.height ≤ b → go y ≡ Some g → OthersTo b (max d y.height) (with_last xs y.tree) y.rest g)
@@ -133,7 +133,7 @@ unfolding others
 others_sound sub b zero d xs ts g sound k h = absurd cc
 others_sound sub b (suc n) d xs ts g sound k h =
     others_step sub b d xs ts g (λ y. others sub n (with_last xs y.tree) (max d y.height) y.rest) sound k
-        (λ y l e. others_sound sub b n (max d y.height) (with_last xs y.tree) y.rest g sound l e) (peek ts) refl h
+    (λ y l e. others_sound sub b n (max d y.height) (with_last xs y.tree) y.rest g sound l e) (peek ts) refl h
 
 arguments_sound : (sub : Parser) (b : ℕ) (ts : List Token) (g : GotList) → IsSound b sub → (f : Lookahead) → peek ts ≡ f → arguments_by sub f ts ≡ Some g → ArgumentsTo b ts g
 unfolding IsSound ArgumentsTo OthersTo

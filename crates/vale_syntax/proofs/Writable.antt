@@ -109,6 +109,7 @@ last_writable (more x xs) y h k = (h.0, last_writable xs y h.1 k)
 
 mutual
   unfolding IsWritable
+
   spelled_writable : {r d : ℕ} {ts : List Token} {x : Ex} {rest : List Token} → Spells r d ts x rest → AreProper ts → IsWritable x × AreProper rest
   spelled_writable (not_ {ts = ts} p h) proper = spelled_writable h (drop_proper 1 ts proper)
   spelled_writable (negative {z = z} {ts = ts} p q) proper = (negated_small ts z q, drop_proper 2 ts proper)
@@ -139,6 +140,7 @@ mutual
 
 mutual
   unfolding IsWritable bare
+
   bare_writable : (x : Ex) → IsWritable (bare x) → IsWritable x
   bare_writable (Int s z) h = h
   bare_writable (Word s n) h = h
@@ -158,6 +160,7 @@ mutual
 
 mutual
   unfolding IsWritable bare
+
   writable_bare : (x : Ex) → IsWritable x → IsWritable (bare x)
   writable_bare (Int s z) h = h
   writable_bare (Word s n) h = h

@@ -1,7 +1,11 @@
+pub mod Declarations
 pub mod Expressions
+pub mod Lists
 pub mod Operators
 pub mod Parse
 pub mod Peek
 pub mod Print
+pub mod Programs
+pub mod Statements
 pub mod Tokens
 pub mod Trees

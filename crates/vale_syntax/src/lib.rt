@@ -1,18 +1,24 @@
 //! The source language: places in files and tokens, with the definition of which tokens a text has.
 #![tactic(auto)]
 
+mod declaration;
 mod expr;
 mod laws;
 mod lookahead;
 mod mark;
 mod print;
 mod spot;
+mod statement;
 mod token;
 
+pub use declaration::{
+    AbiName, Bind, Clause, Decl, Direction, Kind, LemmaClause, Param, ReadPlace,
+};
 pub use expr::{Expr, Name};
 pub use laws::{longest_mark, printed_as_spelled, read_as_spelled, spelled_once};
 pub use lookahead::{Lookahead, peek};
+pub use mark::{BinaryOp, MARKS, Mark, UnaryOp};
 pub use print::print_expr;
 pub use spot::Spot;
-pub use mark::{BinaryOp, MARKS, Mark, UnaryOp};
+pub use statement::{Arg, LemmaStmt, SortName, Stmt};
 pub use token::{Front, NotAToken, Token, TokenKind};

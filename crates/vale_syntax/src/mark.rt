@@ -140,7 +140,8 @@ impl BinaryOp {
         ensures { result ≡ again_of self }
     {
         match self {
-            BinaryOp::Mul | BinaryOp::Add | BinaryOp::Sub | BinaryOp::And | BinaryOp::Or => self.rank(),
+            BinaryOp::Mul | BinaryOp::Add | BinaryOp::Sub | BinaryOp::And | BinaryOp::Or =>
+                self.rank(),
             _ => 0,
         }
     }
