@@ -1,5 +1,5 @@
 -- One turn of what goes on behind an expression.
-use Rattle.std.proofs.Common.{◌≡◌, ℕ, suc, ◌<◌, ◌≤◌, max, ap, drop, Bool, true, false, cond, List, Option, Some, None, refl, sym, ◌∙◌}
+use Rattle.std.proofs.Common.{◌≡◌, ℕ, suc, ◌<◌, ◌≤◌, max, ap, drop, Bool, true, false, cond, List, Option, Some, None, refl, ◌∙◌}
 use Rattle.std.specs.Prelude.{nat_le, Result, IsErrAnd}
 use Rattle.std.proofs.lemmas.Result.{err_from_is_err_and}
 use Rattle.expr_parser.specs.declared.fault.ExprFault.{ExprFault}
@@ -14,8 +14,8 @@ use Rattle.vale_syntax.specs.declared.lookahead.Lookahead.{Lookahead}
 use Rattle.vale_syntax.specs.declared.lookahead.Lookahead.TheVariants as see
 use Rattle.vale_syntax.specs.Operators.{any, right_of, again_of}
 use Rattle.vale_syntax.specs.Peek.{peek}
-use Rattle.vale_syntax.specs.Trees.{Ex, Exs, with_last, Index, Binary}
-use Rattle.vale_syntax.specs.Parse.{Got, GotList, got, got_list, ◌>>=◌ as ◌>=>◌, operator, Parser, squared, others_by, others, indexed_by, indexed, chain_by, chain}
+use Rattle.vale_syntax.specs.Trees.{Exs, with_last, Index, Binary}
+use Rattle.vale_syntax.specs.Parse.{Got, got, got_list, ◌>>=◌ as ◌>=>◌, operator, Parser, squared, others_by, others, indexed_by, indexed, chain_by, chain}
 
 refused : {A : Type 0} (t : Bool) (o : Option A) → o ≡ None → cond t o None ≡ None
 refused true o h = h

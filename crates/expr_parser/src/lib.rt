@@ -5,7 +5,8 @@ mod fault;
 mod lists;
 mod nodes;
 mod parser;
+#[cfg(test)]
+mod tests;
 
 pub use fault::ExprFault;
 pub use parser::read_expr;
-

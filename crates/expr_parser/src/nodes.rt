@@ -5,8 +5,8 @@ ghost use Rattle.vale_syntax.specs.Parse.{got, got_list};
 ghost use Rattle.vale_syntax.specs.Trees.{tree, exs, none, with_last, Unary, Index, Binary};
 ghost use Rattle.expr_parser.specs.Reads.{view, view_list};
 
-use std::alloc::{AllocError, Global};
 use sqlite_items::{Boxed, Items};
+use std::alloc::{AllocError, Global};
 use vale_syntax::{BinaryOp, Expr, Spot, Token, UnaryOp};
 
 /// An expression, its depth, and the tokens behind it.
@@ -18,7 +18,12 @@ pub(crate) struct Parsed<'a> {
 }
 
 /// An operator before an expression.
-pub(crate) fn unary<'a>(alloc: Global, spot: Spot, op: UnaryOp, inner: Parsed<'a>) -> Result<Parsed<'a>, AllocError>
+pub(crate) fn unary<'a>(
+    alloc: Global,
+    spot: Spot,
+    op: UnaryOp,
+    inner: Parsed<'a>,
+) -> Result<Parsed<'a>, AllocError>
     requires { inner.height < 255 }
     ensures { IfOk result (λ p. view p ≡ got (Unary spot op (tree inner.entry.tree)) (suc inner.entry.height) inner.entry.rest.now) }
 {
@@ -41,7 +46,11 @@ pub(crate) fn index<'a>(
     ensures { IfOk result (λ p. view p ≡ got (Index spot (tree array.entry.tree) (tree at.entry.tree)) (suc (max array.entry.height at.entry.height)) rest.now) }
 {
     Ok(Parsed {
-        tree: Expr::Index(spot, Boxed::new(alloc, array.tree)?, Boxed::new(alloc, at.tree)?),
+        tree: Expr::Index(
+            spot,
+            Boxed::new(alloc, array.tree)?,
+            Boxed::new(alloc, at.tree)?,
+        ),
         height: higher(array.height, at.height) + 1,
         rest,
     })
@@ -59,7 +68,12 @@ pub(crate) fn binary<'a>(
     ensures { IfOk result (λ p. view p ≡ got (Binary spot op (tree left.entry.tree) (tree right.entry.tree)) (suc (max left.entry.height right.entry.height)) right.entry.rest.now) }
 {
     Ok(Parsed {
-        tree: Expr::Binary(spot, op, Boxed::new(alloc, left.tree)?, Boxed::new(alloc, right.tree)?),
+        tree: Expr::Binary(
+            spot,
+            op,
+            Boxed::new(alloc, left.tree)?,
+            Boxed::new(alloc, right.tree)?,
+        ),
         height: higher(left.height, right.height) + 1,
         rest: right.rest,
     })
@@ -93,10 +107,17 @@ pub(crate) fn none<'a>(alloc: Global, rest: &'a [Token]) -> ParsedList<'a>
 
 /// One more expression.
 #[tactic(auto, using(crate::proofs::Trees::exs_last))]
-pub(crate) fn with_last<'a>(list: ParsedList<'a>, last: Parsed<'a>) -> Result<ParsedList<'a>, AllocError>
+pub(crate) fn with_last<'a>(
+    list: ParsedList<'a>,
+    last: Parsed<'a>,
+) -> Result<ParsedList<'a>, AllocError>
     ensures { IfOk result (λ p. view_list p ≡ got_list (with_last (exs (map tree list.entry.trees)) (tree last.entry.tree)) (max list.entry.height last.entry.height) last.entry.rest.now) }
 {
-    let ParsedList { mut trees, height, .. } = list;
+    let ParsedList {
+        mut trees,
+        height,
+        ..
+    } = list;
     trees.push(last.tree)?;
     Ok(ParsedList {
         trees,

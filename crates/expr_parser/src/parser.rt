@@ -9,7 +9,10 @@ ghost use Rattle.vale_syntax.specs.Parse.{alone, round, prefixed, others, argume
 ghost use Rattle.expr_parser.specs.Reads.{view, view_list, Gives};
 
 use crate::fault::ExprFault;
-use crate::lists::{after, is_comma, is_round_close, is_square_close, is_square_open, leaf, name_of, negated, operator, spot_of};
+use crate::lists::{
+    after, is_comma, is_round_close, is_square_close, is_square_open, leaf, name_of, negated,
+    operator, spot_of,
+};
 use crate::nodes::{self, Parsed, ParsedList};
 use std::alloc::Global;
 use vale_syntax::{BinaryOp, Expr, Lookahead, Mark, Spot, Token, UnaryOp, peek, read_as_spelled};
@@ -56,7 +59,12 @@ fn part<'a>(alloc: Global, tokens: &'a [Token], rank: u8, left: u8) -> Result<Pa
 // An expression of a rank.
 #[cycle(expression)]
 #[tactic(auto, unfolding(crate::specs::Looks::ranked))]
-fn ranked<'a>(alloc: Global, tokens: &'a [Token], rank: u8, below: u8) -> Result<Parsed<'a>, ExprFault>
+fn ranked<'a>(
+    alloc: Global,
+    tokens: &'a [Token],
+    rank: u8,
+    below: u8,
+) -> Result<Parsed<'a>, ExprFault>
     requires { below < 255 }
     ensures found { Gives view result (ranked (parse below) below rank tokens.now) }
     ensures shallow { IfOk result (λ p. p.height ≤ suc below) }
@@ -124,7 +132,12 @@ fn unary<'a>(alloc: Global, tokens: &'a [Token], below: u8) -> Result<Parsed<'a>
 
 // An operator and the expression behind it.
 #[cycle(expression)]
-fn prefixed<'a>(alloc: Global, tokens: &'a [Token], op: UnaryOp, below: u8) -> Result<Parsed<'a>, ExprFault>
+fn prefixed<'a>(
+    alloc: Global,
+    tokens: &'a [Token],
+    op: UnaryOp,
+    below: u8,
+) -> Result<Parsed<'a>, ExprFault>
     requires { below < 255 }
     ensures found { Gives view result (prefixed (parse below) op tokens.now) }
     ensures shallow { IfOk result (λ p. p.height ≤ suc below) }
@@ -135,7 +148,12 @@ fn prefixed<'a>(alloc: Global, tokens: &'a [Token], op: UnaryOp, below: u8) -> R
 
 // The indices behind an expression.
 #[cycle(expression)]
-fn indexed<'a>(alloc: Global, first: Parsed<'a>, spot: Spot, below: u8) -> Result<Parsed<'a>, ExprFault>
+fn indexed<'a>(
+    alloc: Global,
+    first: Parsed<'a>,
+    spot: Spot,
+    below: u8,
+) -> Result<Parsed<'a>, ExprFault>
     requires room { below < 255 }
     requires first { first.height ≤ suc below }
     ensures found { Gives view result (indexed (parse below) below (suc below) spot (view first.entry)) }
@@ -238,7 +256,12 @@ fn arguments<'a>(alloc: Global, tokens: &'a [Token], below: u8) -> Result<Parsed
 
 // The arguments behind the first ones, of which at most so many are left.
 #[cycle(expression)]
-fn others<'a>(alloc: Global, list: ParsedList<'a>, turns: usize, below: u8) -> Result<ParsedList<'a>, ExprFault>
+fn others<'a>(
+    alloc: Global,
+    list: ParsedList<'a>,
+    turns: usize,
+    below: u8,
+) -> Result<ParsedList<'a>, ExprFault>
     requires { list.height ≤ below }
     ensures found { Gives view_list result (others (parse below) turns (view_list list.entry).trees list.entry.height list.entry.rest.now) }
     ensures shallow { IfOk result (λ p. p.height ≤ below) }

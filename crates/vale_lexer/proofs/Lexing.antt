@@ -1,11 +1,11 @@
 -- How a scan goes on.
 use Rattle.std.proofs.Common.{◌≡◌, ℕ, zero, suc, ◌+◌, ◌-◌, ◌≤◌, ◌<◌, List, [], ◌∷◌, ◌++◌, length, take, drop, refl, sym, ap, ◌∙◌, arith, append_assoc}
 use Rattle.std.proofs.lemmas.List.{append-nil}
-use native.Mathlib.Numerals.{unary_clauses}
 use Rattle.vale_syntax.specs.declared.token.Token.{Token}
 use Rattle.vale_syntax.specs.declared.token.TokenKind.{TokenKind}
 use Rattle.vale_syntax.specs.declared.token.NotAToken.{NotAToken}
 use Rattle.vale_syntax.specs.declared.token.Front.TheVariants.{Skipped, Taken, Stopped}
+use Rattle.vale_syntax.proofs.Lexing.{shift, skip}
 use Rattle.vale_lexer.specs.Lexes.{in_front, FaultOf, fault_of}
 use Rattle.vale_syntax.specs.declared.token.NotAToken.TheVariants as cause
 use Rattle.vale_syntax.specs.Tokens.{lexed, on_front, token, front, with_token, Lexed, All, Nothing}
@@ -21,16 +21,6 @@ in_front_one ts t (Nothing why at) = refl
 pub lexed_end : (file at : ℕ) → lexed file 0 at [] ≡ All []
 unfolding lexed
 lexed_end file at = refl
-
-shift : (at n : ℕ) → at + 1 + n ≡ at + suc n
-shift at n = omega arith
-
--- skipping what belongs to a token is dropping it
-pub skip : (file n at : ℕ) (bytes : List ℕ) → lexed file n at bytes ≡ lexed file 0 (at + n) (drop n bytes)
-unfolding lexed
-skip file zero at bytes = simp unary_clauses refl
-skip file (suc n) at [] = refl
-skip file (suc n) at (b ∷ bs) = skip file n (at + 1) bs ∙ ap (λ k. lexed file 0 k (drop n bs)) (shift at n)
 
 -- a place with something at its front
 pub lexed_front : (file at : ℕ) (bytes : List ℕ) → 0 < length bytes → lexed file 0 at bytes ≡ on_front file at bytes (front bytes) (λ n. lexed file n (at + 1) (drop 1 bytes))

@@ -1,24 +1,21 @@
 -- Where tokens spell an expression, looking ahead finds it.
-use Rattle.std.proofs.Common.{◌≡◌, ℕ, zero, suc, ◌+◌, ◌-◌, ◌<◌, ◌≤◌, max, Bool, true, false, cond, List, [], ◌∷◌, length, drop, length-drop, Option, Some, None, refl, sym, ◌∙◌, ap, subst, arith}
-use Rattle.std.specs.Prelude.{◌==◌, nat_le, pos, neg_ℤ}
-use Rattle.std.proofs.lemmas.Bool.{eq-eqb, leb-true, le-leb, eqb-true, false≢true}
-use Rattle.x64_syntax.specs.declared.keywords.Keyword.{Keyword}
-use Rattle.x64_syntax.specs.declared.keywords.Keyword.TheVariants as word
+use Rattle.std.proofs.Common.{◌≡◌, ℕ, zero, suc, ◌+◌, ◌<◌, ◌≤◌, max, Bool, true, false, cond, List, [], ◌∷◌, length, drop, length-drop, Option, Some, None, refl, sym, ◌∙◌, ap, subst, arith}
+use Rattle.std.specs.Prelude.{◌==◌}
+use Rattle.std.proofs.lemmas.Bool.{eq-eqb, le-leb, eqb-true, false≢true}
 use Rattle.vale_syntax.specs.declared.token.Token.{Token}
 use Rattle.vale_syntax.specs.declared.spot.Spot.{Spot}
 use Rattle.vale_syntax.specs.declared.mark.Mark.{Mark}
 use Rattle.vale_syntax.specs.declared.mark.Mark.TheVariants as mark
 use Rattle.vale_syntax.specs.declared.mark.BinaryOp.{BinaryOp}
 use Rattle.vale_syntax.specs.declared.mark.BinaryOp.TheVariants as op
-use Rattle.vale_syntax.specs.declared.mark.UnaryOp.{UnaryOp}
 use Rattle.vale_syntax.specs.declared.mark.UnaryOp.TheVariants.{Not, Neg}
 use Rattle.vale_syntax.specs.declared.lookahead.Lookahead.{Lookahead}
 use Rattle.vale_syntax.specs.declared.lookahead.Lookahead.TheVariants as see
 use Rattle.vale_syntax.specs.Operators.{rank_of, any, right_of, again_of}
 use Rattle.vale_syntax.specs.Peek.{peek, spot_of}
-use Rattle.vale_syntax.specs.Trees.{Ex, Exs, none, more, with_last, Int, Call, Index, Unary, Binary}
-use Rattle.vale_syntax.specs.Expressions.{name_of, leaf_by, leaf, negated, Spells, not_, negative, minus, postfix, operations, Chain, chain_end, operation, Indexed, index_end, index, Atom, token, call, brackets, Arguments, nothing, some, Others, others_end, next}
-use Rattle.vale_syntax.specs.Parse.{Got, GotList, got, got_list, ◌>>=◌, operator, Parser, alone, bracketed, under, squared, others_by, others, arguments_by, arguments, named_by, atom_by, atom, indexed_by, indexed, minus_by, unary_by, unary, chain_by, chain, ranked, parse}
+use Rattle.vale_syntax.specs.Trees.{Ex, Exs, none, more, with_last, Call, Index, Binary}
+use Rattle.vale_syntax.specs.Expressions.{name_of, leaf_by, leaf, Spells, not_, negative, minus, postfix, operations, Chain, chain_end, operation, Indexed, index_end, index, Atom, token, call, brackets, Arguments, nothing, some, Others, others_end, next}
+use Rattle.vale_syntax.specs.Parse.{Got, got, got_list, ◌>>=◌, operator, Parser, alone, bracketed, under, others, arguments_by, arguments, named_by, atom_by, atom, indexed_by, indexed, minus_by, unary_by, unary, chain, ranked, parse}
 use Rattle.vale_syntax.proofs.Grows.{chain_grows, indexed_grows, others_grow, spells_deep, atom_deep, spells_short}
 
 -- how loosely a token holds on to an expression before it: 0 and 1 for brackets, then the operators by rank

@@ -1,11 +1,7 @@
 -- What is spelled takes tokens in their order, and its depth is at least that of each part.
-use Rattle.std.proofs.Common.{◌≡◌, ℕ, suc, ◌+◌, ◌-◌, ◌<◌, ◌≤◌, max, List, [], ◌∷◌, length, drop, length-drop, Option, Some, None, refl, sym, ◌∙◌, ap, arith}
+use Rattle.std.proofs.Common.{ℕ, ◌≤◌, List, length, drop, length-drop, arith}
 use Rattle.vale_syntax.specs.declared.token.Token.{Token}
 use Rattle.vale_syntax.specs.declared.spot.Spot.{Spot}
-use Rattle.vale_syntax.specs.declared.mark.Mark.{Mark}
-use Rattle.vale_syntax.specs.declared.mark.BinaryOp.{BinaryOp}
-use Rattle.vale_syntax.specs.declared.lookahead.Lookahead.TheVariants as see
-use Rattle.vale_syntax.specs.Peek.{peek}
 use Rattle.vale_syntax.specs.Trees.{Ex, Exs}
 use Rattle.vale_syntax.specs.Expressions.{Spells, not_, negative, minus, postfix, operations, Chain, chain_end, operation, Indexed, index_end, index, Atom, token, call, brackets, Arguments, nothing, some, Others, others_end, next}
 

@@ -1,19 +1,17 @@
 -- What stands at the front of a text that begins with a name, a number or a mark.
-use Rattle.std.proofs.Common.{◌≡◌, ℕ, zero, suc, ◌+◌, ◌-◌, ◌*◌, ◌/◌, ◌%◌, ◌^◌, ◌<◌, ◌≤◌, Bool, true, false, cond, not, ◌&&◌, ◌||◌, List, [], ◌∷◌, ◌++◌, length, take, drop, Option, Some, None, ◌⊎◌, inl, inr, refl, sym, ◌∙◌, ap, subst, arith, decimal, append_assoc, length-append}
+use Rattle.std.proofs.Common.{◌≡◌, ℕ, suc, ◌+◌, ◌-◌, ◌*◌, ◌/◌, ◌%◌, ◌^◌, ◌<◌, ◌≤◌, Bool, true, false, cond, not, ◌&&◌, ◌||◌, List, [], ◌∷◌, ◌++◌, length, take, drop, Some, None, ◌⊎◌, inl, inr, refl, sym, ◌∙◌, ap, subst, arith, decimal, append_assoc, length-append}
 use native.Mathlib.Numerals.{unary_clauses}
 use Rattle.std.specs.Prelude.{◌==◌, nat_lt, nat_le, codes, slice_index}
 use Rattle.std.specs.List.{list_all, prefix_len}
-use Rattle.std.specs.Str.{bytes_eq}
-use Rattle.std.proofs.lemmas.Bool.{and_parts, and_from, or_parts, eqb-true, eq-eqb, leb-true, le-leb, lt-leb, lt-ltb, ltb-true, false≢true}
+use Rattle.std.proofs.lemmas.Bool.{and_parts, and_from, or_parts, eqb-true, leb-true, le-leb, lt-leb, lt-ltb, ltb-true, false≢true}
 use Rattle.std.proofs.lemmas.Fmt.{decimal_by_steps_wide}
 use Rattle.std.proofs.lemmas.Nat.{div-add-mod', mod_below}
 use Rattle.x64_syntax.specs.Words.{is_digit_byte, is_letter_byte, is_name_byte, is_name_text}
 use Rattle.vale_syntax.specs.declared.token.TokenKind.{TokenKind}
 use Rattle.vale_syntax.specs.declared.token.TokenKind.TheVariants as kind
-use Rattle.vale_syntax.specs.declared.token.Front.{Front}
 use Rattle.vale_syntax.specs.declared.token.Front.TheVariants.{Skipped, Taken, Stopped}
 use Rattle.vale_syntax.specs.declared.token.NotAToken.TheVariants.{NumberTooLarge}
-use Rattle.vale_syntax.specs.Tokens.{begins, is_blank, is_stamp_byte, stamp_len, name_front, named, is_hex_byte, digit, number_after, wide, value, below, suffixed, hex_len, number_of, number, other, front}
+use Rattle.vale_syntax.specs.Tokens.{is_blank, is_stamp_byte, stamp_len, name_front, named, is_hex_byte, digit, number_after, wide, value, below, suffixed, hex_len, number_of, number, other, front}
 use Rattle.vale_syntax.specs.Print.{IsStamped}
 use Rattle.vale_syntax.proofs.Lexing.{take_front, drop_front}
 

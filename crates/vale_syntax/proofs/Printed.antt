@@ -1,16 +1,14 @@
 -- The text of a writable expression lexes to tokens that spell it.
-use Rattle.std.proofs.Common.{◌≡◌, ℕ, zero, suc, ◌+◌, ◌-◌, ◌^◌, ◌<◌, ◌≤◌, max, Bool, true, false, cond, List, [], ◌∷◌, ◌++◌, length, drop, Option, Some, None, ◌⊎◌, inl, inr, refl, sym, ◌∙◌, ap, subst, arith, decimal, append_assoc, length-append}
-use native.Mathlib.Numerals.{unary_clauses}
-use Rattle.std.specs.Prelude.{ℤ, pos, negsuc, nat_abs, neg_ℤ, nat_le, codes}
+use Rattle.std.proofs.Common.{◌≡◌, ℕ, zero, suc, ◌+◌, ◌-◌, ◌^◌, ◌<◌, ◌≤◌, max, Bool, true, false, cond, List, [], ◌∷◌, ◌++◌, length, drop, Some, None, ◌⊎◌, inl, inr, refl, sym, ◌∙◌, ap, subst, arith, decimal, append_assoc, length-append}
+use Rattle.std.specs.Prelude.{pos, negsuc, nat_le, codes}
 use Rattle.std.proofs.lemmas.Bool.{leb-true, leb-false, lt-ltb, false≢true}
 use Rattle.std.proofs.lemmas.List.{append-nil}
-use Rattle.x64_syntax.specs.Words.{is_name_text, keywords, keyword_of}
+use Rattle.x64_syntax.specs.Words.{is_name_text, keywords}
 use Rattle.vale_syntax.specs.declared.token.Token.{Token}
 use Rattle.vale_syntax.specs.declared.token.TokenKind.{TokenKind}
 use Rattle.vale_syntax.specs.declared.token.TokenKind.TheVariants as kind
 use Rattle.vale_syntax.specs.declared.token.Front.TheVariants.{Taken}
 use Rattle.vale_syntax.specs.declared.spot.Spot.{Spot}
-use Rattle.vale_syntax.specs.declared.mark.Mark.{Mark}
 use Rattle.vale_syntax.specs.declared.mark.Mark.TheVariants as mark
 use Rattle.vale_syntax.specs.declared.mark.BinaryOp.{BinaryOp}
 use Rattle.vale_syntax.specs.declared.mark.BinaryOp.TheVariants as op
@@ -22,7 +20,7 @@ use Rattle.vale_syntax.specs.Operators.{rank_of, any, right_of}
 use Rattle.vale_syntax.specs.Peek.{peek, spot_of}
 use Rattle.vale_syntax.specs.Tokens.{token as token_at, front, lexed, All}
 use Rattle.vale_syntax.specs.Trees.{Ex, Exs, none, more, with_last, Int, Word, Wide, True, False, Prev, Name, Call, Index, Unary, Binary}
-use Rattle.vale_syntax.specs.Expressions.{name_of, whole, whole_at, counted, leaf, negated, Spells, not_, negative, minus, postfix, operations, Chain, chain_end, operation, Indexed, index_end, index, Atom, token, call, brackets, Arguments, nothing, some, Others, others_end, next}
+use Rattle.vale_syntax.specs.Expressions.{whole, whole_at, counted, leaf, negated, Spells, not_, negative, minus, postfix, operations, chain_end, operation, Indexed, index_end, index, Atom, token, call, brackets, Arguments, nothing, some, Others, others_end, next}
 use Rattle.vale_syntax.specs.Print.{binary_text, unary_text, is_operand, bracketed, text, list_text, operand_text, IsFree, IsStamped, IsWritable, AreWritable, nowhere, bare, bares, IsTextOf}
 use Rattle.vale_syntax.proofs.Complete.{rank_some}
 use Rattle.vale_syntax.proofs.Lexing.{token_first, blank_first}

@@ -1,21 +1,19 @@
 -- The tokens of a text are such as their kinds say, and so what they spell is writable.
-use Rattle.std.proofs.Common.{◌≡◌, ℕ, zero, suc, ◌+◌, ◌-◌, ◌*◌, ◌^◌, ◌<◌, ◌≤◌, max, Bool, true, false, cond, not, ◌&&◌, ◌||◌, List, [], ◌∷◌, ◌++◌, length, take, drop, Option, Some, None, ◌⊎◌, inl, inr, refl, sym, ◌∙◌, ap, subst, arith, append_assoc, length-append}
-use native.Mathlib.Numerals.{unary_clauses}
-use Rattle.std.specs.Prelude.{ℤ, pos, negsuc, nat_abs, neg_ℤ, nat_lt, nat_le, ◌==◌, slice_index, codes}
+use Rattle.std.proofs.Common.{◌≡◌, ℕ, zero, suc, ◌+◌, ◌-◌, ◌^◌, ◌<◌, Bool, true, false, cond, ◌&&◌, ◌||◌, List, [], ◌∷◌, ◌++◌, length, take, drop, Option, Some, None, refl, sym, ◌∙◌, ap, subst, arith}
+use Rattle.std.specs.Prelude.{nat_lt, ◌==◌, codes}
 use Rattle.std.specs.List.{list_all, prefix_len, AllByRecursion}
-use Rattle.std.proofs.lemmas.Bool.{and_parts, and_from, or_parts, eqb-true, ltb-true, lt-ltb, false≢true}
+use Rattle.std.proofs.lemmas.Bool.{and_parts, and_from, eqb-true, ltb-true, lt-ltb, false≢true}
 use Rattle.std.proofs.lemmas.List.Folds.{length-prefix_len}
 use Rattle.std.proofs.Math.Seq.{take-add}
-use Rattle.x64_syntax.specs.Words.{is_digit_byte, is_letter_byte, is_name_byte, is_name_text, keyword_of}
+use Rattle.x64_syntax.specs.Words.{is_digit_byte, is_letter_byte, is_name_byte, is_name_text}
 use Rattle.vale_syntax.specs.declared.token.Token.{Token}
 use Rattle.vale_syntax.specs.declared.token.TokenKind.{TokenKind}
 use Rattle.vale_syntax.specs.declared.token.TokenKind.TheVariants as kind
 use Rattle.vale_syntax.specs.declared.token.Front.{Front}
 use Rattle.vale_syntax.specs.declared.token.Front.TheVariants.{Skipped, Taken, Stopped}
-use Rattle.vale_syntax.specs.declared.token.NotAToken.{NotAToken}
-use Rattle.vale_syntax.specs.declared.token.NotAToken.TheVariants.{NumberTooLarge, OpenComment, BadByte}
+use Rattle.vale_syntax.specs.declared.token.NotAToken.TheVariants.{NumberTooLarge}
 use Rattle.vale_syntax.specs.declared.mark.Mark.{Mark}
-use Rattle.vale_syntax.specs.Tokens.{begins, is_blank, is_in_line, comment, close_len, is_stamp_byte, stamp_len, name_front, named, wide, value, below, suffixed, hex_len, number_of, number, marks, mark_at, mark_front, other, front, Lexed, All, Nothing, with_token, token, on_front, lexed}
+use Rattle.vale_syntax.specs.Tokens.{begins, is_blank, comment, close_len, is_stamp_byte, stamp_len, name_front, named, value, below, suffixed, hex_len, number_of, marks, mark_at, mark_front, other, front, Lexed, All, Nothing, with_token, token, on_front, lexed}
 use Rattle.vale_syntax.specs.Print.{IsStamped}
 
 -- a token's text and value are such as its kind says

@@ -1,5 +1,5 @@
 -- What looking ahead finds is spelled.
-use Rattle.std.proofs.Common.{◌≡◌, ℕ, zero, suc, ◌+◌, ◌<◌, ◌≤◌, max, Bool, true, false, cond, List, drop, length, Option, Some, None, refl, sym, ◌∙◌, ap, subst, arith}
+use Rattle.std.proofs.Common.{◌≡◌, ℕ, zero, suc, ◌≤◌, max, Bool, true, false, cond, List, drop, length, Option, Some, None, refl, sym, ◌∙◌, ap, subst, arith}
 use Rattle.std.specs.Prelude.{◌==◌, nat_le, ℤ, neg_ℤ}
 use Rattle.std.proofs.lemmas.Bool.{leb-true, eqb-true}
 use Rattle.vale_syntax.specs.declared.token.Token.{Token}

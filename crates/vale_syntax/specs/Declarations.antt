@@ -25,7 +25,7 @@ use Rattle.vale_syntax.specs.Trees.{Ex}
 use Rattle.vale_syntax.specs.Expressions.{name_of}
 use Rattle.vale_syntax.specs.Programs.{Sts, LSts, Cl, Reads, Modifies, Requires, Ensures, Stack, Abi, LCl, LRequires, LEnsures, LDecreases, De, Procedure, Lemma, Function, Export}
 use Rattle.vale_syntax.specs.Lists.{Closed, Separated, Many}
-use Rattle.vale_syntax.specs.Statements.{Expression, sort_word, sort_at, Block, LBlock, statement_limit}
+use Rattle.vale_syntax.specs.Statements.{Expression, sort_at, Block, LBlock, statement_limit}
 
 -- the kind of operands that a word is
 abbrev pub kind_word : List ℕ → Spot → Option Kind

@@ -10,7 +10,7 @@ use Rattle.vale_syntax.specs.declared.mark.BinaryOp.TheVariants as op
 use Rattle.vale_syntax.specs.declared.mark.UnaryOp.{UnaryOp}
 use Rattle.vale_syntax.specs.declared.mark.UnaryOp.TheVariants as un
 use Rattle.vale_syntax.specs.Operators.{any}
-use Rattle.vale_syntax.specs.Tokens.{is_stamp_byte, Lexed, All, lexed}
+use Rattle.vale_syntax.specs.Tokens.{is_stamp_byte, All, lexed}
 use Rattle.vale_syntax.specs.Expressions.{Spells}
 use Rattle.vale_syntax.specs.Trees.{Ex, Exs, none, more, Int, Word, Wide, True, False, Prev, Name, Call, Index, Unary, Binary}
 

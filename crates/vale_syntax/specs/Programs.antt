@@ -1,5 +1,5 @@
 -- Statements and declarations without where they lie in memory.
-use Rattle.std.specs.Prelude.{List, [], ◌∷◌, map, Option, Some, None, Bool}
+use Rattle.std.specs.Prelude.{List, [], ◌∷◌, map, Option, Some, None}
 use Rattle.std.specs.Option.{option_map}
 use Rattle.vale_syntax.specs.declared.spot.Spot.{Spot}
 use Rattle.vale_syntax.specs.declared.expr.Name.{Name}
@@ -23,7 +23,6 @@ use Rattle.vale_syntax.specs.declared.declaration.LemmaClause.TheVariants as lem
 use Rattle.vale_syntax.specs.declared.declaration.Decl.{Decl}
 use Rattle.vale_syntax.specs.declared.declaration.Decl.TheVariants as decl
 use Rattle.vale_syntax.specs.Trees.{Ex, tree}
-
 
 -- an argument of a statement
 pub data Ar : Type 0 where

@@ -1,7 +1,7 @@
-use Rattle.std.proofs.Common.{◌≡◌, ◌<◌, ◌≤◌, ℕ, suc, ◌+◌, ◌-◌, max, drop, refl, sym, ◌∙◌, ap, arith}
+use Rattle.std.proofs.Common.{◌≡◌, ◌<◌, ℕ, suc, ◌+◌, ◌-◌, max, refl, sym, ◌∙◌, ap, arith}
 use Rattle.vale_syntax.specs.Peek.{peek}
-use Rattle.vale_syntax.specs.Parse.{Got, GotList, chain, indexed, others, parse}
-use Rattle.expr_parser.specs.Reads.{view, view_list, Gives}
+use Rattle.vale_syntax.specs.Parse.{Got, GotList, others, parse}
+use Rattle.expr_parser.specs.Reads.{view, view_list}
 use Rattle.expr_parser.proofs.Marks.{round_close, square_open, square_close, comma, not_indexed, not_squared, no_others}
 use Rattle.expr_parser.proofs.Turns.{chain_stops, chain_high, chain_fails, chain_goes_on, index_stops, index_high, index_fails, index_open, index_goes_on, others_turn, others_close, others_fail, others_go_on, chain_done, index_done, others_done, passed_on}
 use Rattle.expr_parser.proofs.parser.+expression.Goals as goal
@@ -23,14 +23,14 @@ chain-returns-then-below-sofar-clause-found t c =
 pub chain-returns-in_err-right-clause-found : goal.chain-returns-in_err-right-clause-found
 chain-returns-in_err-right-clause-found t c =
     passed_on view c.from_residual.result c.in_err-right.field-0.0 (parse c.args.below c.right.result c.after.result.now) _ c.from_residual.ensures.1 c.in_err-right.ensures.found (λ none.
-        sym c.loop-turn.invariant.found
-        ∙ chain_fails _ _ _ _ _ _ _ c.operator.result c.in-Some.op (turns _ _ c.loop-turn-test.true) (rw c.peek.ensures at c.operator.ensures) c.in-Some.is (rw (c.right.ensures, c.after.ensures) at none))
+    sym c.loop-turn.invariant.found
+    ∙ chain_fails _ _ _ _ _ _ _ c.operator.result c.in-Some.op (turns _ _ c.loop-turn-test.true) (rw c.peek.ensures at c.operator.ensures) c.in-Some.is (rw (c.right.ensures, c.after.ensures) at none))
 
 pub chain-loop-turn-preserved : goal.chain-loop-turn-preserved
 chain-loop-turn-preserved t c =
     let height : c.in_ok-sofar.sofar.height ≡ suc (max c.loop-turn.sofar.height c.in_ok-right.right.height) = ap (λ (g : Got). g.height) c.in_ok-sofar.ensures in
     let next = chain_goes_on (parse c.args.below) c.args.below (suc c.args.below - c.loop-turn._turn) _ c.loop-turn.goes_on c.args.spot (view c.loop-turn.sofar) (view c.in_ok-right.right) c.operator.result c.in-Some.op
-        (turns _ _ c.loop-turn-test.true) (rw c.peek.ensures at c.operator.ensures) c.in-Some.is (omega (arith, c.if-below-sofar.false)) (rw (c.right.ensures, c.after.ensures) at c.in_ok-right.ensures.found) in
+    (turns _ _ c.loop-turn-test.true) (rw c.peek.ensures at c.operator.ensures) c.in-Some.is (omega (arith, c.if-below-sofar.false)) (rw (c.right.ensures, c.after.ensures) at c.in_ok-right.ensures.found) in
     record {
       found = rw (c.in_ok-sofar.ensures, c.again-goes_on.ensures) (sym next ∙ c.loop-turn.invariant.found);
       shallow = omega (arith, height, c.if-below-sofar.false, c.in_ok-right.ensures.shallow);
@@ -55,8 +55,8 @@ pub indexed-returns-in_err-at-clause-found : goal.indexed-returns-in_err-at-clau
 indexed-returns-in_err-at-clause-found t c =
     let open_ = square_open c.peek.result (rw c.is_square_open.ensures at c.if-not-is_square_open.false) in
     passed_on view c.from_residual.result c.in_err-at.field-0.0 (parse c.args.below 6 c.after.result.now) _ c.from_residual.ensures.1 c.in_err-at.ensures.found (λ none.
-        sym c.loop-turn.invariant.found
-        ∙ index_fails _ _ _ _ _ _ c.peek.result (turns _ _ c.loop-turn-test.true) c.peek.ensures open_ (rw c.after.ensures at none))
+    sym c.loop-turn.invariant.found
+    ∙ index_fails _ _ _ _ _ _ c.peek.result (turns _ _ c.loop-turn-test.true) c.peek.ensures open_ (rw c.after.ensures at none))
 
 pub indexed-returns-then-not-is_square_close-clause-found : goal.indexed-returns-then-not-is_square_close-clause-found
 indexed-returns-then-not-is_square_close-clause-found t c =
@@ -71,7 +71,7 @@ indexed-loop-turn-preserved t c =
     let close = square_close (peek c.in_ok-at.at.rest.now) (rw (c.is_square_close.ensures, c.peek-in-loop-turn.ensures) at c.if-not-is_square_close.false) in
     let height : c.in_ok-sofar.sofar.height ≡ suc (max c.loop-turn.sofar.height c.in_ok-at.at.height) = ap (λ (g : Got). g.height) c.in_ok-sofar.ensures in
     let next = index_goes_on (parse c.args.below) c.args.below (suc c.args.below - c.loop-turn._turn) _ c.args.spot (view c.loop-turn.sofar) (view c.in_ok-at.at) c.peek.result
-        (turns _ _ c.loop-turn-test.true) c.peek.ensures open_ (omega (arith, c.if-below-sofar.false)) (rw c.after.ensures at c.in_ok-at.ensures.found) close in
+    (turns _ _ c.loop-turn-test.true) c.peek.ensures open_ (omega (arith, c.if-below-sofar.false)) (rw c.after.ensures at c.in_ok-at.ensures.found) close in
     record {
       found = rw (c.in_ok-sofar.ensures, c.after-rest.ensures) (sym next ∙ c.loop-turn.invariant.found);
       shallow = omega (arith, height, c.if-below-sofar.false, c.in_ok-at.ensures.shallow);
@@ -101,15 +101,15 @@ pub others-returns-in_err-next-clause-found : goal.others-returns-in_err-next-cl
 others-returns-in_err-next-clause-found t c =
     let separated = comma c.peek-token.result (rw c.is_comma.ensures at c.if-not-is_comma.false) in
     passed_on view_list c.from_residual.result c.in_err-next.field-0.0 (parse c.args.below 6 c.after.result.now) _ c.from_residual.ensures.1 c.in_err-next.ensures.found (λ none.
-        sym c.loop-turn.invariant.found
-        ∙ others_fail _ _ _ _ _ _ c.peek-token.result (argument_turns _ _ c.loop-turn-test.true) c.peek-token.ensures separated (rw c.after.ensures at none))
+    sym c.loop-turn.invariant.found
+    ∙ others_fail _ _ _ _ _ _ c.peek-token.result (argument_turns _ _ c.loop-turn-test.true) c.peek-token.ensures separated (rw c.after.ensures at none))
 
 pub others-loop-turn-preserved : goal.others-loop-turn-preserved
 others-loop-turn-preserved t c =
     let separated = comma c.peek-token.result (rw c.is_comma.ensures at c.if-not-is_comma.false) in
     let height : c.in_ok-sofar.sofar.height ≡ max c.loop-turn.sofar.height c.in_ok-next.next.height = ap (λ (g : GotList). g.height) c.in_ok-sofar.ensures in
     let next = others_go_on (parse c.args.below) (c.args.turns - c.loop-turn._turn) _ (view_list c.loop-turn.sofar).trees c.loop-turn.sofar.height c.loop-turn.sofar.rest.now (view c.in_ok-next.next) c.peek-token.result
-        (argument_turns _ _ c.loop-turn-test.true) c.peek-token.ensures separated (rw c.after.ensures at c.in_ok-next.ensures.found) in
+    (argument_turns _ _ c.loop-turn-test.true) c.peek-token.ensures separated (rw c.after.ensures at c.in_ok-next.ensures.found) in
     let now = ap (λ (g : GotList). others (parse c.args.below) (c.args.turns - (c.loop-turn._turn + 1)) g.trees g.height g.rest) c.in_ok-sofar.ensures in
     record {
       found = now ∙ sym next ∙ c.loop-turn.invariant.found;

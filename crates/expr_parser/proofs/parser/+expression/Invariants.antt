@@ -1,5 +1,5 @@
-use Rattle.std.proofs.Common.{◌≡◌, ℕ, suc, ◌+◌, ◌-◌, ◌*◌, ◌≤◌}
-use Rattle.vale_syntax.specs.Parse.{Got, GotList, chain, indexed, others, parse}
+use Rattle.std.proofs.Common.{◌≡◌, suc, ◌+◌, ◌-◌, ◌*◌, ◌≤◌}
+use Rattle.vale_syntax.specs.Parse.{chain, indexed, others, parse}
 use Rattle.expr_parser.specs.Reads.{view, view_list}
 use Rattle.expr_parser.proofs.parser.+expression.Given as goal
 
@@ -39,18 +39,18 @@ decreases-indexed l = 1024 * l.below + 1
 -- what the turns that are left give is what all give
 abbrev pub invariant-chain-loop-turn : goal.invariant-chain-loop-turn
 invariant-chain-loop-turn l = record {
-    found : chain (parse l.below) l.below (suc l.below - l._turn) l.goes_on l.spot (view l.sofar) ≡ chain (parse l.below) l.below (suc l.below) l.fn.rank l.fn.spot (view l.fn.first);
-    shallow : l.sofar.height ≤ suc l.below;
-  }
+  found : chain (parse l.below) l.below (suc l.below - l._turn) l.goes_on l.spot (view l.sofar) ≡ chain (parse l.below) l.below (suc l.below) l.fn.rank l.fn.spot (view l.fn.first);
+  shallow : l.sofar.height ≤ suc l.below;
+}
 
 abbrev pub invariant-indexed-loop-turn : goal.invariant-indexed-loop-turn
 invariant-indexed-loop-turn l = record {
-    found : indexed (parse l.below) l.below (suc l.below - l._turn) l.spot (view l.sofar) ≡ indexed (parse l.below) l.below (suc l.below) l.fn.spot (view l.fn.first);
-    shallow : l.sofar.height ≤ suc l.below;
-  }
+  found : indexed (parse l.below) l.below (suc l.below - l._turn) l.spot (view l.sofar) ≡ indexed (parse l.below) l.below (suc l.below) l.fn.spot (view l.fn.first);
+  shallow : l.sofar.height ≤ suc l.below;
+}
 
 abbrev pub invariant-others-loop-turn : goal.invariant-others-loop-turn
 invariant-others-loop-turn l = record {
-    found : others (parse l.below) (l.turns - l._turn) (view_list l.sofar).trees l.sofar.height l.sofar.rest.now ≡ others (parse l.below) l.turns (view_list l.fn.list).trees l.fn.list.height l.fn.list.rest.now;
-    shallow : l.sofar.height ≤ l.below;
-  }
+  found : others (parse l.below) (l.turns - l._turn) (view_list l.sofar).trees l.sofar.height l.sofar.rest.now ≡ others (parse l.below) l.turns (view_list l.fn.list).trees l.fn.list.height l.fn.list.rest.now;
+  shallow : l.sofar.height ≤ l.below;
+}

@@ -1,4 +1,4 @@
-use Rattle.std.proofs.Common.{◌≡◌, Option, Some, None, sym, ◌∙◌}
+use Rattle.std.proofs.Common.{◌≡◌, Option, Some, None}
 use Rattle.std.specs.Prelude.{Result, Ok, Err, IsErrOf}
 use Rattle.expr_parser.specs.declared.fault.ExprFault.{ExprFault}
 use Rattle.expr_parser.specs.declared.fault.ExprFault.TheVariants.{NotAnExpr, NoMemory}
