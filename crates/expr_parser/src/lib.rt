@@ -9,4 +9,5 @@ mod parser;
 mod tests;
 
 pub use fault::ExprFault;
-pub use parser::read_expr;
+pub use lists::{after, name_of, spot_of};
+pub use parser::{read_expr, read_front};

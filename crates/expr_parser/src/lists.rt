@@ -15,7 +15,7 @@ use vale_syntax::{BinaryOp, Expr, Lookahead, Mark, Name, Spot, Token, peek};
 use x64_syntax::{Keyword, Text};
 
 /// The tokens behind the first ones.
-pub(crate) fn after(tokens: &[Token], count: usize) -> &[Token]
+pub fn after(tokens: &[Token], count: usize) -> &[Token]
     ensures { result.now ≡ drop count tokens.now }
 {
     if count <= tokens.len() {
@@ -26,7 +26,7 @@ pub(crate) fn after(tokens: &[Token], count: usize) -> &[Token]
 }
 
 /// Where the first token stands.
-pub(crate) fn spot_of(tokens: &[Token]) -> Spot
+pub fn spot_of(tokens: &[Token]) -> Spot
     ensures { result ≡ spot_of tokens.now }
 {
     match tokens {
@@ -36,7 +36,7 @@ pub(crate) fn spot_of(tokens: &[Token]) -> Spot
 }
 
 /// The first token as a name.
-pub(crate) fn name_of(alloc: Global, tokens: &[Token]) -> Result<Name, AllocError>
+pub fn name_of(alloc: Global, tokens: &[Token]) -> Result<Name, AllocError>
     ensures { IfOk result (λ n. n ≡ name_of tokens.now) }
 {
     let text = match tokens {

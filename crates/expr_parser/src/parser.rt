@@ -6,7 +6,7 @@ ghost use Rattle.vale_syntax.specs.Peek.{peek};
 ghost use Rattle.vale_syntax.specs.Trees.{Ex, tree};
 ghost use Rattle.vale_syntax.specs.Expressions.{IsExpr, leaf};
 ghost use Rattle.vale_syntax.specs.Parse.{alone, round, prefixed, others, arguments, named_by, atom, indexed, unary, chain, ranked, parse, read};
-ghost use Rattle.expr_parser.specs.Reads.{view, view_list, Gives};
+ghost use Rattle.expr_parser.specs.Reads.{expression, view, view_list, Gives};
 
 use crate::fault::ExprFault;
 use crate::lists::{
@@ -30,6 +30,19 @@ pub fn read_expr(alloc: Global, tokens: &[Token]) -> Result<Expr, ExprFault>
 {
     read_as_spelled();
     whole(alloc, tokens)
+}
+
+/// The expression that the tokens begin with, and the tokens behind it: the longest that no operator, bracket or index
+/// goes on.
+#[tactic(auto, unfolding(crate::specs::Reads::expression))]
+pub fn read_front<'a>(
+    alloc: Global,
+    tokens: &'a [Token],
+) -> Result<(Expr, &'a [Token]), ExprFault>
+    ensures { Gives (λ p. (tree p.0, p.1.now)) result (expression tokens.now) }
+{
+    let found = part(alloc, tokens, ANY, DEPTH_LIMIT)?;
+    Ok((found.tree, found.rest))
 }
 
 #[tactic(auto, unfolding(crate::specs::Looks::read))]

@@ -1,0 +1,5 @@
+pub mod Looks
+pub mod Parts
+pub mod Productions
+pub mod Reads
+pub mod Things

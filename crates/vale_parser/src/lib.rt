@@ -1,0 +1,8 @@
+//! Declarations from tokens: exactly those that the grammar spells.
+#![tactic(auto)]
+
+mod fault;
+mod front;
+mod parameters;
+mod part;
+mod words;

@@ -1,0 +1,222 @@
+// Names with sorts, places that are read, and parameters.
+
+ghost use Rattle.std.specs.Prelude.{◌≡◌, map};
+ghost use Rattle.vale_parser.specs.Parts.{separated, closed};
+ghost use Rattle.vale_parser.specs.Productions.{name, bind, place, place_at, parameter, operand_at, out_at, inline_at, ghost_at, block_at, guarded};
+ghost use Rattle.vale_parser.specs.Reads.{Gives};
+ghost use Rattle.vale_parser.specs.Things.{Thing, ABind, APlace, AParam, AName, tagged};
+
+use crate::fault::PartFault;
+use crate::front::{Read, name};
+use crate::part::{Part, closed, separated};
+use crate::words::{is_secret, kind_behind, sort_behind};
+use expr_parser::{after, spot_of};
+use sqlite_items::Items;
+use std::alloc::Global;
+use vale_syntax::{Bind, Direction, Lookahead, Name, Param, ReadPlace, SortName, Spot, Token, peek};
+use x64_syntax::Keyword;
+
+#[tactic(auto, unfolding(crate::specs::Productions::bind))]
+fn bind<'a>(alloc: Global, tokens: &'a [Token]) -> Result<Read<'a, Bind>, PartFault>
+    ensures { Gives (λ r. (r.part, r.rest.now)) result (bind tokens.now) }
+{
+    let name = name(alloc, tokens)?;
+    let sort = sort_behind(name.rest)?;
+    Ok(Read {
+        part: Bind {
+            name: name.part,
+            sort: sort.part,
+        },
+        rest: sort.rest,
+    })
+}
+
+fn place_at<'a>(
+    alloc: Global,
+    spot: Spot,
+    is_secret: bool,
+    tokens: &'a [Token],
+) -> Result<Read<'a, ReadPlace>, PartFault>
+    ensures { Gives (λ r. (r.part, r.rest.now)) result (place_at spot is_secret tokens.now) }
+{
+    let name = name(alloc, tokens)?;
+    Ok(Read {
+        part: ReadPlace {
+            spot,
+            is_secret,
+            name: name.part,
+        },
+        rest: name.rest,
+    })
+}
+
+#[tactic(auto, unfolding(crate::specs::Productions::place))]
+fn place<'a>(alloc: Global, tokens: &'a [Token]) -> Result<Read<'a, ReadPlace>, PartFault>
+    ensures { Gives (λ r. (r.part, r.rest.now)) result (place tokens.now) }
+{
+    let spot = spot_of(tokens);
+    if is_secret(peek(tokens)) {
+        place_at(alloc, spot, true, after(tokens, 1))
+    } else {
+        place_at(alloc, spot, false, tokens)
+    }
+}
+
+fn operand_at<'a>(
+    alloc: Global,
+    spot: Spot,
+    is_secret: bool,
+    direction: Direction,
+    tokens: &'a [Token],
+) -> Result<Read<'a, Param>, PartFault>
+    ensures { Gives (λ r. (r.part, r.rest.now)) result (operand_at spot is_secret direction tokens.now) }
+{
+    let name = name(alloc, tokens)?;
+    let kind = kind_behind(name.rest)?;
+    Ok(Read {
+        part: Param::Operand(spot, is_secret, direction, name.part, kind.part),
+        rest: kind.rest,
+    })
+}
+
+fn out_at<'a>(alloc: Global, spot: Spot, tokens: &'a [Token]) -> Result<Read<'a, Param>, PartFault>
+    ensures { Gives (λ r. (r.part, r.rest.now)) result (out_at spot tokens.now) }
+{
+    let name = name(alloc, tokens)?;
+    let kind = kind_behind(name.rest)?;
+    Ok(Read {
+        part: Param::Out(spot, name.part, kind.part),
+        rest: kind.rest,
+    })
+}
+
+fn inline_at<'a>(alloc: Global, spot: Spot, tokens: &'a [Token]) -> Result<Read<'a, Param>, PartFault>
+    ensures { Gives (λ r. (r.part, r.rest.now)) result (inline_at spot tokens.now) }
+{
+    let name = name(alloc, tokens)?;
+    let sort = sort_behind(name.rest)?;
+    match sort.part {
+        SortName::Int(_) => Ok(Read {
+            part: Param::Inline(spot, name.part),
+            rest: sort.rest,
+        }),
+        _ => Err(PartFault::NotAPart),
+    }
+}
+
+fn ghost_at<'a>(alloc: Global, spot: Spot, tokens: &'a [Token]) -> Result<Read<'a, Param>, PartFault>
+    ensures { Gives (λ r. (r.part, r.rest.now)) result (ghost_at spot tokens.now) }
+{
+    let name = name(alloc, tokens)?;
+    let sort = sort_behind(name.rest)?;
+    Ok(Read {
+        part: Param::Ghost(spot, name.part, sort.part),
+        rest: sort.rest,
+    })
+}
+
+fn block_at<'a>(
+    alloc: Global,
+    spot: Spot,
+    is_secret: bool,
+    tokens: &'a [Token],
+) -> Result<Read<'a, Param>, PartFault>
+    ensures { Gives (λ r. (r.part, r.rest.now)) result (block_at spot is_secret tokens.now) }
+{
+    let name = name(alloc, tokens)?;
+    Ok(Read {
+        part: Param::Block(spot, is_secret, name.part),
+        rest: name.rest,
+    })
+}
+
+// A parameter that may be secret.
+fn guarded<'a>(
+    alloc: Global,
+    spot: Spot,
+    is_secret: bool,
+    tokens: &'a [Token],
+) -> Result<Read<'a, Param>, PartFault>
+    ensures { Gives (λ r. (r.part, r.rest.now)) result (guarded spot is_secret tokens.now) }
+{
+    let rest = after(tokens, 1);
+    match peek(tokens) {
+        Lookahead::Keyword(Keyword::In) => operand_at(alloc, spot, is_secret, Direction::In, rest),
+        Lookahead::Keyword(Keyword::InOut) => operand_at(alloc, spot, is_secret, Direction::InOut, rest),
+        Lookahead::Keyword(Keyword::Block) => block_at(alloc, spot, is_secret, rest),
+        _ => Err(PartFault::NotAPart),
+    }
+}
+
+#[tactic(auto, unfolding(crate::specs::Productions::parameter))]
+fn parameter<'a>(alloc: Global, tokens: &'a [Token]) -> Result<Read<'a, Param>, PartFault>
+    ensures { Gives (λ r. (r.part, r.rest.now)) result (parameter tokens.now) }
+{
+    let spot = spot_of(tokens);
+    let rest = after(tokens, 1);
+    match peek(tokens) {
+        Lookahead::Keyword(Keyword::Secret) => guarded(alloc, spot, true, rest),
+        Lookahead::Keyword(Keyword::Out) => out_at(alloc, spot, rest),
+        Lookahead::Keyword(Keyword::Inline) => inline_at(alloc, spot, rest),
+        Lookahead::Keyword(Keyword::Ghost) => ghost_at(alloc, spot, rest),
+        _ => guarded(alloc, spot, false, tokens),
+    }
+}
+
+impl Part for Bind {
+    ghost thing = { λ b. ABind b };
+
+    ghost found = { tagged ABind bind };
+
+    fn read<'a>(alloc: Global, tokens: &'a [Token]) -> Result<Read<'a, Self>, PartFault> {
+        bind(alloc, tokens)
+    }
+}
+
+impl Part for ReadPlace {
+    ghost thing = { λ p. APlace p };
+
+    ghost found = { tagged APlace place };
+
+    fn read<'a>(alloc: Global, tokens: &'a [Token]) -> Result<Read<'a, Self>, PartFault> {
+        place(alloc, tokens)
+    }
+}
+
+impl Part for Param {
+    ghost thing = { λ p. AParam p };
+
+    ghost found = { tagged AParam parameter };
+
+    fn read<'a>(alloc: Global, tokens: &'a [Token]) -> Result<Read<'a, Self>, PartFault> {
+        parameter(alloc, tokens)
+    }
+}
+
+/// Names with sorts, joined by commas, and the closing round bracket.
+pub(crate) fn binds<'a>(alloc: Global, tokens: &'a [Token]) -> Result<Read<'a, Items<Bind>>, PartFault>
+    ensures { Gives (λ r. (r.part, r.rest.now)) result (closed bind tokens.now) }
+{
+    closed(alloc, tokens)
+}
+
+/// Parameters, joined by commas, and the closing round bracket.
+pub(crate) fn parameters<'a>(alloc: Global, tokens: &'a [Token]) -> Result<Read<'a, Items<Param>>, PartFault>
+    ensures { Gives (λ r. (r.part, r.rest.now)) result (closed parameter tokens.now) }
+{
+    closed(alloc, tokens)
+}
+
+/// One or more places, each secret or not, joined by commas.
+pub(crate) fn places<'a>(alloc: Global, tokens: &'a [Token]) -> Result<Read<'a, Items<ReadPlace>>, PartFault>
+    ensures { Gives (λ r. (r.part, r.rest.now)) result (separated place tokens.now) }
+{
+    separated(alloc, tokens)
+}
+
+/// One or more names, joined by commas.
+pub(crate) fn names<'a>(alloc: Global, tokens: &'a [Token]) -> Result<Read<'a, Items<Name>>, PartFault>
+    ensures { Gives (λ r. (r.part, r.rest.now)) result (separated name tokens.now) }
+{
+    separated(alloc, tokens)
+}

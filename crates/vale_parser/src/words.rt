@@ -1,0 +1,192 @@
+// Words with a meaning at their place alone.
+
+ghost use Rattle.std.specs.Prelude.{◌≡◌};
+ghost use Rattle.vale_syntax.specs.Peek.{peek, text_of};
+ghost use Rattle.vale_syntax.specs.Statements.{sort_at, sort_word};
+ghost use Rattle.vale_syntax.specs.Declarations.{kind_at, kind_word, abi_at, abi_word};
+ghost use Rattle.vale_parser.specs.Productions.{is_name, is_if, is_else, is_invariant, is_decreases, is_secret, is_zero, is_step, sort_behind, kind_behind};
+ghost use Rattle.vale_parser.specs.Reads.{Gives};
+
+use crate::fault::PartFault;
+use crate::front::{Read, expect};
+use expr_parser::{after, spot_of};
+use vale_syntax::{AbiName, Kind, Lookahead, Mark, SortName, Spot, Token, peek};
+use x64_syntax::Keyword;
+
+fn sort_word(text: &[u8], spot: Spot) -> Option<SortName>
+    ensures { result ≡ sort_word text.now spot }
+{
+    if text == b"int".as_slice() {
+        return Some(SortName::Int(spot));
+    }
+    if text == b"bool".as_slice() {
+        return Some(SortName::Bool(spot));
+    }
+    if text == b"w64".as_slice() {
+        return Some(SortName::W64(spot));
+    }
+    if text == b"w128".as_slice() {
+        return Some(SortName::W128(spot));
+    }
+    if text == b"arr".as_slice() {
+        Some(SortName::Arr(spot))
+    } else {
+        None
+    }
+}
+
+fn kind_word(text: &[u8], spot: Spot) -> Option<Kind>
+    ensures { result ≡ kind_word text.now spot }
+{
+    if text == b"reg".as_slice() {
+        return Some(Kind::Reg(spot));
+    }
+    if text == b"opr".as_slice() {
+        return Some(Kind::Opr(spot));
+    }
+    if text == b"xmm".as_slice() {
+        Some(Kind::Xmm(spot))
+    } else {
+        None
+    }
+}
+
+fn abi_word(text: &[u8], spot: Spot) -> Option<AbiName>
+    ensures { result ≡ abi_word text.now spot }
+{
+    if text == b"sysv".as_slice() {
+        return Some(AbiName::Sysv(spot));
+    }
+    if text == b"win".as_slice() {
+        Some(AbiName::Win(spot))
+    } else {
+        None
+    }
+}
+
+// The text of the first token.
+fn text_of(tokens: &[Token]) -> &[u8]
+    ensures { result.now ≡ text_of tokens.now }
+{
+    match tokens {
+        [] => &[],
+        [token, ..] => token.text.as_bytes(),
+    }
+}
+
+/// The sort that the first token is.
+#[tactic(auto, unfolding(crate::specs::Looks::sort_at))]
+pub(crate) fn sort_at(tokens: &[Token]) -> Option<SortName>
+    ensures { result ≡ sort_at tokens.now }
+{
+    match peek(tokens) {
+        Lookahead::Name => sort_word(text_of(tokens), spot_of(tokens)),
+        _ => None,
+    }
+}
+
+/// The kind of operands that the first token is.
+#[tactic(auto, unfolding(crate::specs::Looks::kind_at))]
+pub(crate) fn kind_at(tokens: &[Token]) -> Option<Kind>
+    ensures { result ≡ kind_at tokens.now }
+{
+    match peek(tokens) {
+        Lookahead::Name => kind_word(text_of(tokens), spot_of(tokens)),
+        _ => None,
+    }
+}
+
+/// The calling convention that the first token is.
+#[tactic(auto, unfolding(crate::specs::Looks::abi_at))]
+pub(crate) fn abi_at(tokens: &[Token]) -> Option<AbiName>
+    ensures { result ≡ abi_at tokens.now }
+{
+    match peek(tokens) {
+        Lookahead::Name => abi_word(text_of(tokens), spot_of(tokens)),
+        _ => None,
+    }
+}
+
+/// `: sort`
+pub(crate) fn sort_behind(tokens: &[Token]) -> Result<Read<'_, SortName>, PartFault>
+    ensures { Gives (λ r. (r.part, r.rest.now)) result (sort_behind tokens.now) }
+{
+    let rest = expect(tokens, Mark::Colon)?;
+    match sort_at(rest) {
+        Some(part) => Ok(Read {
+            part,
+            rest: after(rest, 1),
+        }),
+        None => Err(PartFault::NotAPart),
+    }
+}
+
+/// `: kind`
+pub(crate) fn kind_behind(tokens: &[Token]) -> Result<Read<'_, Kind>, PartFault>
+    ensures { Gives (λ r. (r.part, r.rest.now)) result (kind_behind tokens.now) }
+{
+    let rest = expect(tokens, Mark::Colon)?;
+    match kind_at(rest) {
+        Some(part) => Ok(Read {
+            part,
+            rest: after(rest, 1),
+        }),
+        None => Err(PartFault::NotAPart),
+    }
+}
+
+/// Whether a token is a name.
+pub(crate) fn is_name(token: Lookahead) -> bool
+    ensures { result ≡ is_name token }
+{
+    matches!(token, Lookahead::Name)
+}
+
+/// Whether a token is `if`.
+pub(crate) fn is_if(token: Lookahead) -> bool
+    ensures { result ≡ is_if token }
+{
+    matches!(token, Lookahead::Keyword(Keyword::If))
+}
+
+/// Whether a token is `else`.
+pub(crate) fn is_else(token: Lookahead) -> bool
+    ensures { result ≡ is_else token }
+{
+    matches!(token, Lookahead::Keyword(Keyword::Else))
+}
+
+/// Whether a token is `invariant`.
+pub(crate) fn is_invariant(token: Lookahead) -> bool
+    ensures { result ≡ is_invariant token }
+{
+    matches!(token, Lookahead::Keyword(Keyword::Invariant))
+}
+
+/// Whether a token is `decreases`.
+pub(crate) fn is_decreases(token: Lookahead) -> bool
+    ensures { result ≡ is_decreases token }
+{
+    matches!(token, Lookahead::Keyword(Keyword::Decreases))
+}
+
+/// Whether a token is `secret`.
+pub(crate) fn is_secret(token: Lookahead) -> bool
+    ensures { result ≡ is_secret token }
+{
+    matches!(token, Lookahead::Keyword(Keyword::Secret))
+}
+
+/// Whether a token is `zero`.
+pub(crate) fn is_zero(token: Lookahead) -> bool
+    ensures { result ≡ is_zero token }
+{
+    matches!(token, Lookahead::Keyword(Keyword::Zero))
+}
+
+/// Whether a token is `step`.
+pub(crate) fn is_step(token: Lookahead) -> bool
+    ensures { result ≡ is_step token }
+{
+    matches!(token, Lookahead::Keyword(Keyword::Step))
+}
