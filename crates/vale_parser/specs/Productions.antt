@@ -299,9 +299,15 @@ begins_clause _ = false
 abbrev pub abi_clause : Spot → List Token → Option (Cl × List Token)
 abi_clause s ts = and_then (abi_at ts) (λ a. and_then (expect mark.Semicolon (drop 1 ts)) (λ rest. Some (Abi s a, rest)))
 
+abbrev pub reads_clause : List Token → Option (Cl × List Token)
+reads_clause ts = and_then (before mark.Semicolon (separated place (drop 1 ts))) (λ p. Some (Reads (spot_of ts) p.0, p.1))
+
+abbrev pub modifies_clause : List Token → Option (Cl × List Token)
+modifies_clause ts = and_then (before mark.Semicolon (separated name (drop 1 ts))) (λ p. Some (Modifies (spot_of ts) p.0, p.1))
+
 abbrev pub clause_by : Lookahead → List Token → Option (Cl × List Token)
-clause_by (see.Keyword word.Reads) ts = and_then (before mark.Semicolon (separated place (drop 1 ts))) (λ p. Some (Reads (spot_of ts) p.0, p.1))
-clause_by (see.Keyword word.Modifies) ts = and_then (before mark.Semicolon (separated name (drop 1 ts))) (λ p. Some (Modifies (spot_of ts) p.0, p.1))
+clause_by (see.Keyword word.Reads) ts = reads_clause ts
+clause_by (see.Keyword word.Modifies) ts = modifies_clause ts
 clause_by (see.Keyword word.Requires) ts = and_then (expression_end ts) (λ x. Some (Requires (spot_of ts) x.0, x.1))
 clause_by (see.Keyword word.Ensures) ts = and_then (expression_end ts) (λ x. Some (Ensures (spot_of ts) x.0, x.1))
 clause_by (see.Keyword word.Stack) ts = and_then (expression_end ts) (λ x. Some (Stack (spot_of ts) x.0, x.1))
