@@ -1,6 +1,7 @@
 //! Declarations from tokens: exactly those that the grammar spells.
 #![tactic(auto)]
 
+mod arguments;
 mod clauses;
 mod fault;
 mod front;

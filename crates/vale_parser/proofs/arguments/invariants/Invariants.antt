@@ -1,0 +1,9 @@
+use Rattle.std.proofs.Common.{◌≡◌, List, [], map, length, ◌-◌}
+use Rattle.vale_syntax.specs.Trees.{tree}
+use Rattle.vale_parser.specs.Parts.{many}
+use Rattle.vale_parser.specs.Productions.{is_invariant, invariant_}
+use Rattle.vale_parser.proofs.arguments.invariants.Given as goal
+
+-- what the turns that are left give is what all give
+abbrev pub invariant-loop-turn : goal.invariant-loop-turn
+invariant-loop-turn l = many is_invariant invariant_ (length l.tokens - l._turn) (map tree l.parts) l.rest ≡ many is_invariant invariant_ (length l.tokens) [] l.tokens

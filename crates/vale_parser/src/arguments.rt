@@ -1,0 +1,149 @@
+// Arguments of statements, invariants and tests.
+
+ghost use Rattle.std.specs.Prelude.{◌≡◌, [], length, drop, map};
+ghost use Rattle.vale_syntax.specs.Peek.{peek};
+ghost use Rattle.vale_syntax.specs.Trees.{tree};
+ghost use Rattle.vale_syntax.specs.Programs.{arg_tree};
+ghost use Rattle.expr_parser.specs.Reads.{expression};
+ghost use Rattle.vale_parser.specs.Parts.{separated, closed, many};
+ghost use Rattle.vale_parser.specs.Productions.{memory_at, value_at, argument_by, argument, invariant_, is_invariant, test};
+ghost use Rattle.vale_parser.specs.Reads.{Gives};
+ghost use Rattle.vale_parser.specs.Things.{Thing, AnArg, tagged};
+
+use crate::clauses::expression_end;
+use crate::fault::PartFault;
+use crate::front::{Read, expect, expression, is_at};
+use crate::part::{Part, closed, separated};
+use crate::words::{is_invariant, is_name};
+use expr_parser::{after, name_of};
+use sqlite_items::Items;
+use std::alloc::Global;
+use vale_syntax::{Arg, Expr, Mark, Name, Token, peek};
+
+/// Expressions, joined by commas, and the closing round bracket.
+pub(crate) fn expressions<'a>(alloc: Global, tokens: &'a [Token]) -> Result<Read<'a, Items<Expr>>, PartFault>
+    ensures { Gives (λ r. (map tree r.part, r.rest.now)) result (closed expression tokens.now) }
+{
+    closed(alloc, tokens)
+}
+
+fn some_expressions<'a>(alloc: Global, tokens: &'a [Token]) -> Result<Read<'a, Items<Expr>>, PartFault>
+    ensures { Gives (λ r. (map tree r.part, r.rest.now)) result (separated expression tokens.now) }
+{
+    separated(alloc, tokens)
+}
+
+// A memory operand, behind its `@`.
+fn memory_at<'a>(
+    alloc: Global,
+    block: Name,
+    index: Expr,
+    tokens: &'a [Token],
+) -> Result<Read<'a, Arg>, PartFault>
+    ensures { Gives (λ r. (arg_tree r.part, r.rest.now)) result (memory_at block (tree index) tokens.now) }
+{
+    let rest = expect(tokens, Mark::RoundOpen)?;
+    let address = some_expressions(alloc, rest)?;
+    let rest = expect(address.rest, Mark::RoundClose)?;
+    Ok(Read {
+        part: Arg::Memory(block, index, address.part),
+        rest,
+    })
+}
+
+fn value_at<'a>(alloc: Global, tokens: &'a [Token]) -> Result<Read<'a, Arg>, PartFault>
+    ensures { Gives (λ r. (arg_tree r.part, r.rest.now)) result (value_at tokens.now) }
+{
+    let found = expression(alloc, tokens)?;
+    Ok(Read {
+        part: Arg::Value(found.part),
+        rest: found.rest,
+    })
+}
+
+// An argument that begins with a name and an index, which is read apart from the rest: an index may be as deep as an
+// expression.
+fn indexed<'a>(alloc: Global, tokens: &'a [Token]) -> Result<Read<'a, Arg>, PartFault>
+    ensures { Gives (λ r. (arg_tree r.part, r.rest.now)) result (argument_by (expression (drop 2 tokens.now)) tokens.now) }
+{
+    match expression(alloc, after(tokens, 2)) {
+        Ok(index) => {
+            if is_at(index.rest, Mark::SquareClose) && is_at(after(index.rest, 1), Mark::At) {
+                let block = name_of(alloc, tokens)?;
+                memory_at(alloc, block, index.part, after(index.rest, 2))
+            } else {
+                value_at(alloc, tokens)
+            }
+        }
+        Err(PartFault::NotAPart) => value_at(alloc, tokens),
+        Err(PartFault::NoMemory) => Err(PartFault::NoMemory),
+    }
+}
+
+#[tactic(auto, unfolding(crate::specs::Productions::argument))]
+fn argument<'a>(alloc: Global, tokens: &'a [Token]) -> Result<Read<'a, Arg>, PartFault>
+    ensures { Gives (λ r. (arg_tree r.part, r.rest.now)) result (argument tokens.now) }
+{
+    if is_name(peek(tokens)) && is_at(after(tokens, 1), Mark::SquareOpen) {
+        indexed(alloc, tokens)
+    } else {
+        value_at(alloc, tokens)
+    }
+}
+
+impl Part for Arg {
+    ghost thing = { λ a. AnArg (arg_tree a) };
+
+    ghost found = { tagged AnArg argument };
+
+    fn read<'a>(alloc: Global, tokens: &'a [Token]) -> Result<Read<'a, Self>, PartFault> {
+        argument(alloc, tokens)
+    }
+}
+
+/// Arguments, joined by commas, and the closing round bracket.
+pub(crate) fn arguments<'a>(alloc: Global, tokens: &'a [Token]) -> Result<Read<'a, Items<Arg>>, PartFault>
+    ensures { Gives (λ r. (map arg_tree r.part, r.rest.now)) result (closed argument tokens.now) }
+{
+    closed(alloc, tokens)
+}
+
+#[tactic(auto, unfolding(crate::specs::Productions::invariant_))]
+fn invariant<'a>(alloc: Global, tokens: &'a [Token]) -> Result<Read<'a, Expr>, PartFault>
+    ensures { Gives (λ r. (tree r.part, r.rest.now)) result (invariant_ tokens.now) }
+{
+    if is_invariant(peek(tokens)) {
+        expression_end(alloc, tokens)
+    } else {
+        Err(PartFault::NotAPart)
+    }
+}
+
+/// The invariants of a loop.
+pub(crate) fn invariants<'a>(alloc: Global, tokens: &'a [Token]) -> Result<Read<'a, Items<Expr>>, PartFault>
+    ensures { Gives (λ r. (map tree r.part, r.rest.now)) result (many is_invariant invariant_ (length tokens.now) [] tokens.now) }
+{
+    let mut parts = Items::new(alloc);
+    let mut rest = tokens;
+    for _turn in 0..tokens.len() {
+        if !is_invariant(peek(rest)) {
+            return Ok(Read { part: parts, rest });
+        }
+        let next = invariant(alloc, rest)?;
+        parts.push(next.part)?;
+        rest = next.rest;
+    }
+    Ok(Read { part: parts, rest })
+}
+
+/// `(t)`
+pub(crate) fn test<'a>(alloc: Global, tokens: &'a [Token]) -> Result<Read<'a, Expr>, PartFault>
+    ensures { Gives (λ r. (tree r.part, r.rest.now)) result (test tokens.now) }
+{
+    let rest = expect(tokens, Mark::RoundOpen)?;
+    let found = expression(alloc, rest)?;
+    Ok(Read {
+        part: found.part,
+        rest: expect(found.rest, Mark::RoundClose)?,
+    })
+}
