@@ -151,9 +151,15 @@ abbrev pub test : Parser Ex
 test ts = and_then (expect mark.RoundOpen ts) (λ rest. before mark.RoundClose (expression rest))
 
 -- statements that have none inside
+abbrev pub call_at : List Token → Option (St × List Token)
+call_at ts = and_then (before mark.Semicolon (closed argument (drop 2 ts))) (λ a. Some (Call (name_of ts) a.0, a.1))
+
+abbrev pub assign_at : List Token → Option (St × List Token)
+assign_at ts = and_then (before mark.Semicolon (expression (drop 2 ts))) (λ x. Some (Assign (name_of ts) x.0, x.1))
+
 abbrev pub named_by : Lookahead → List Token → Option (St × List Token)
-named_by (see.Mark mark.RoundOpen) ts = and_then (before mark.Semicolon (closed argument (drop 2 ts))) (λ a. Some (Call (name_of ts) a.0, a.1))
-named_by (see.Mark mark.Assign) ts = and_then (before mark.Semicolon (expression (drop 2 ts))) (λ x. Some (Assign (name_of ts) x.0, x.1))
+named_by (see.Mark mark.RoundOpen) ts = call_at ts
+named_by (see.Mark mark.Assign) ts = assign_at ts
 named_by _ ts = None
 
 abbrev pub ghost_statement : List Token → Option (St × List Token)
@@ -209,9 +215,24 @@ block sub ts = and_then (expect mark.BraceOpen ts) (λ rest. body sub (length re
 abbrev pub else_by : Statements → List Token → Option Armed
 else_by sub ts = if is_else (peek ts) then and_then (block sub (drop 1 ts)) (λ b. Some (armed (arm b.trees) b.height b.rest)) else Some (armed no_arm 0 ts)
 
--- the arms behind a test
-abbrev pub arms : Statements → (Sts → Arm → St) → List Token → Option Stated
-arms sub make ts = and_then (block sub ts) (λ b. and_then (else_by sub b.rest) (λ e. Some (stated (make b.trees e.arm) (suc (max b.height e.height)) e.rest)))
+-- both arms behind a test, with the depth of the whole
+pub record Branches : Type 0 where
+  pub first : Sts
+  pub second : Arm
+  pub height : ℕ
+  pub rest : List Token
+
+abbrev pub branches : Sts → Arm → ℕ → List Token → Branches
+branches xs y d ts = record { first = xs; second = y; height = d; rest = ts }
+
+abbrev pub arms : Statements → List Token → Option Branches
+arms sub ts = and_then (block sub ts) (λ b. and_then (else_by sub b.rest) (λ e. Some (branches b.trees e.arm (suc (max b.height e.height)) e.rest)))
+
+abbrev pub if_at : Statements → Spot → Option (Ex × List Token) → Option Stated
+if_at sub s found = and_then found (λ t. and_then (arms sub t.1) (λ a. Some (stated (If s t.0 a.first a.second) a.height a.rest)))
+
+abbrev pub inline_if_at : Statements → Spot → Option (Ex × List Token) → Option Stated
+inline_if_at sub s found = and_then found (λ t. and_then (arms sub t.1) (λ a. Some (stated (InlineIf s t.0 a.first a.second) a.height a.rest)))
 
 abbrev pub loop_at : Statements → Spot → Ex × List Token → Option Stated
 loop_at sub s t =
@@ -222,9 +243,9 @@ abbrev pub shallow : Option (St × List Token) → Option Stated
 shallow found = and_then found (λ x. Some (stated x.0 1 x.1))
 
 abbrev pub statement_by : Statements → Lookahead → List Token → Option Stated
-statement_by sub (see.Keyword word.If) ts = and_then (test (drop 1 ts)) (λ t. arms sub (If (spot_of ts) t.0) t.1)
+statement_by sub (see.Keyword word.If) ts = if_at sub (spot_of ts) (test (drop 1 ts))
 statement_by sub (see.Keyword word.While) ts = and_then (test (drop 1 ts)) (loop_at sub (spot_of ts))
-statement_by sub (see.Keyword word.Inline) ts = and_then (asked (is_if (peek (drop 1 ts))) (test (drop 2 ts))) (λ t. arms sub (InlineIf (spot_of ts) t.0) t.1)
+statement_by sub (see.Keyword word.Inline) ts = inline_if_at sub (spot_of ts) (asked (is_if (peek (drop 1 ts))) (test (drop 2 ts)))
 statement_by sub _ ts = shallow (simple ts)
 
 -- a statement with a depth of at most so many
@@ -270,8 +291,20 @@ lblock sub ts = and_then (expect mark.BraceOpen ts) (λ rest. lbody sub (length 
 abbrev pub lelse_by : LStatements → List Token → Option LArmed
 lelse_by sub ts = if is_else (peek ts) then and_then (lblock sub (drop 1 ts)) (λ b. Some (larmed (larm b.trees) b.height b.rest)) else Some (larmed no_larm 0 ts)
 
-abbrev pub larms : LStatements → Spot → Ex × List Token → Option LStated
-larms sub s t = and_then (lblock sub t.1) (λ b. and_then (lelse_by sub b.rest) (λ e. Some (lstated (LIf s t.0 b.trees e.arm) (suc (max b.height e.height)) e.rest)))
+pub record LBranches : Type 0 where
+  pub first : LSts
+  pub second : LArm
+  pub height : ℕ
+  pub rest : List Token
+
+abbrev pub lbranches : LSts → LArm → ℕ → List Token → LBranches
+lbranches xs y d ts = record { first = xs; second = y; height = d; rest = ts }
+
+abbrev pub larms : LStatements → List Token → Option LBranches
+larms sub ts = and_then (lblock sub ts) (λ b. and_then (lelse_by sub b.rest) (λ e. Some (lbranches b.trees e.arm (suc (max b.height e.height)) e.rest)))
+
+abbrev pub lif_at : LStatements → Spot → Option (Ex × List Token) → Option LStated
+lif_at sub s found = and_then found (λ t. and_then (larms sub t.1) (λ a. Some (lstated (LIf s t.0 a.first a.second) a.height a.rest)))
 
 abbrev pub lcall : List Token → Option LStated
 lcall ts = and_then (expect mark.RoundOpen (drop 1 ts)) (λ rest. and_then (before mark.Semicolon (closed expression rest)) (λ a. Some (lstated (LCall (name_of ts) a.0) 1 a.1)))
@@ -279,7 +312,7 @@ lcall ts = and_then (expect mark.RoundOpen (drop 1 ts)) (λ rest. and_then (befo
 abbrev pub lstatement_by : LStatements → Lookahead → List Token → Option LStated
 lstatement_by sub see.Name ts = lcall ts
 lstatement_by sub (see.Keyword word.Assert) ts = and_then (expression_end ts) (λ x. Some (lstated (LAssert (spot_of ts) x.0) 1 x.1))
-lstatement_by sub (see.Keyword word.If) ts = and_then (test (drop 1 ts)) (larms sub (spot_of ts))
+lstatement_by sub (see.Keyword word.If) ts = lif_at sub (spot_of ts) (test (drop 1 ts))
 lstatement_by sub _ ts = None
 
 unfoldable pub lstatement : ℕ → List Token → Option LStated

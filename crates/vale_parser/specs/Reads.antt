@@ -1,6 +1,13 @@
 -- What a function of the parser answered, held against what looking ahead gives.
 use Rattle.std.specs.Prelude.{◌≡◌, List, map, Option, Some, None, Result, Ok, Err}
 use Rattle.vale_syntax.specs.declared.token.Token.{Token}
+use Rattle.std.specs.Option.{option_map}
+use Rattle.vale_syntax.specs.Programs.{stmt_tree, sts, arm_of}
+use Rattle.vale_parser.specs.declared.statements.Stated.{Stated}
+use Rattle.vale_parser.specs.declared.statements.Bodied.{Bodied}
+use Rattle.vale_parser.specs.declared.statements.Armed.{Armed}
+use Rattle.vale_parser.specs.declared.statements.Branches.{Branches}
+use Rattle.vale_parser.specs.Productions.{stated, bodied, armed, branches, Stated as AStated, Bodied as ABodied, Armed as AArmed, Branches as ABranches}
 use Rattle.vale_parser.specs.declared.fault.PartFault.{PartFault}
 use Rattle.vale_parser.specs.declared.fault.PartFault.TheVariants.{NotAPart, NoMemory}
 
@@ -12,3 +19,15 @@ Fails NoMemory o = Unit {0}
 abbrev pub Gives : {X Y : Type 0} → (X → Y) → Result X PartFault → Option Y → Type 0
 Gives view (Ok x) o = o ≡ Some (view x)
 Gives view (Err e) o = Fails e o
+
+abbrev pub stated_view : Stated → AStated
+stated_view s = stated (stmt_tree s.tree) s.height s.rest.now
+
+abbrev pub bodied_view : Bodied → ABodied
+bodied_view b = bodied (sts (map stmt_tree b.trees)) b.height b.rest.now
+
+abbrev pub armed_view : Armed → AArmed
+armed_view a = armed (arm_of (option_map (λ xs. map stmt_tree xs) a.arm)) a.height a.rest.now
+
+abbrev pub branches_view : Branches → ABranches
+branches_view b = branches (sts (map stmt_tree b.first)) (arm_of (option_map (λ xs. map stmt_tree xs) b.second)) b.height b.rest.now

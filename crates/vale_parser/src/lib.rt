@@ -7,4 +7,5 @@ mod fault;
 mod front;
 mod parameters;
 mod part;
+mod statements;
 mod words;
