@@ -1,3 +1,4 @@
+pub mod Bodies
 pub mod Parts
 pub mod Things
 pub mod Turns
