@@ -379,19 +379,35 @@ lemma_ ts =
     and_then (head ts) (λ n. and_then (closed bind n.1) (λ bs. and_then (many begins_lclause lclause (length bs.1) [] bs.1) (λ cs.
     and_then (lblock (lstatement statement_limit) cs.1) (λ b. Some (Lemma (spot_of ts) n.0 bs.0 cs.0 b.trees, b.rest)))))
 
--- the parts of a recursive function, in braces
-abbrev pub parts_at : (Option Ex → Ex → De) → List Token → Option (De × List Token)
-parts_at make ts =
-    and_then (asked (is_zero (peek ts)) (expression_end ts)) (λ x. and_then (asked (is_step (peek x.1)) (expression_end x.1)) (λ y.
-    and_then (expect mark.BraceClose y.1) (λ rest. Some (make (Some x.0) y.0, rest))))
+-- what stands before a function's value
+pub record Header : Type 0 where
+  pub spot : Spot
+  pub name : Name
+  pub binds : List Bind
+  pub sort : SortName
 
-abbrev pub result_by : (Option Ex → Ex → De) → Lookahead → List Token → Option (De × List Token)
-result_by make (see.Mark mark.Equals) ts = and_then (expression_end ts) (λ x. Some (make None x.0, x.1))
-result_by make (see.Mark mark.BraceOpen) ts = parts_at make (drop 1 ts)
-result_by make _ ts = None
+abbrev pub header : Spot → Name → List Bind → SortName → Header
+header s n bs t = record { spot = s; name = n; binds = bs; sort = t }
+
+abbrev pub plain_at : Header → List Token → Option (De × List Token)
+plain_at h ts = and_then (expression_end ts) (λ x. Some (Function h.spot h.name h.binds h.sort None x.0, x.1))
+
+-- the parts of a recursive function, in braces
+abbrev pub parts_at : Header → List Token → Option (De × List Token)
+parts_at h ts =
+    and_then (asked (is_zero (peek ts)) (expression_end ts)) (λ x. and_then (asked (is_step (peek x.1)) (expression_end x.1)) (λ y.
+    and_then (expect mark.BraceClose y.1) (λ rest. Some (Function h.spot h.name h.binds h.sort (Some x.0) y.0, rest))))
+
+abbrev pub result_by : Header → Lookahead → List Token → Option (De × List Token)
+result_by h (see.Mark mark.Equals) ts = plain_at h ts
+result_by h (see.Mark mark.BraceOpen) ts = parts_at h (drop 1 ts)
+result_by h _ ts = None
+
+abbrev pub result_at : Header → List Token → Option (De × List Token)
+result_at h ts = result_by h (peek ts) ts
 
 abbrev pub function_ : Parser De
-function_ ts = and_then (head ts) (λ n. and_then (closed bind n.1) (λ bs. and_then (sort_behind bs.1) (λ s. result_by (Function (spot_of ts) n.0 bs.0 s.0) (peek s.1) s.1)))
+function_ ts = and_then (head ts) (λ n. and_then (closed bind n.1) (λ bs. and_then (sort_behind bs.1) (λ s. result_at (header (spot_of ts) n.0 bs.0 s.0) s.1)))
 
 abbrev pub export_ : Parser De
 export_ ts =

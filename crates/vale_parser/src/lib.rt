@@ -3,8 +3,10 @@
 
 mod arguments;
 mod clauses;
+mod declarations;
 mod fault;
 mod front;
+mod lemma_statements;
 mod parameters;
 mod part;
 mod statements;

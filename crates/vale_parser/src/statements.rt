@@ -137,7 +137,8 @@ fn measure<'a>(alloc: Global, tokens: &'a [Token]) -> Result<Read<'a, Expr>, Par
     }
 }
 
-fn higher(a: u8, b: u8) -> u8
+/// The greater of two depths.
+pub(crate) fn higher(a: u8, b: u8) -> u8
     ensures { result ≡ max a b }
 {
     if a < b { b } else { a }
