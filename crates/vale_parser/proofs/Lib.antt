@@ -1,4 +1,5 @@
 pub mod Bodies
+pub mod Found
 pub mod Parts
 pub mod Things
 pub mod Turns
