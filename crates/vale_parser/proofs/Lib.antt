@@ -1,5 +1,6 @@
 pub mod Bodies
 pub mod Found
+pub mod FoundArguments
 pub mod Parts
 pub mod Things
 pub mod Turns
