@@ -38,6 +38,14 @@ expect_at m k ts e p = expect_found m (drop k ts) e p ∙ ap Some (dd k 1 ts)
 pub before_of : {A : Type 0} (m : Mark) (o : Option (A × List Token)) (x : A) (rest : List Token) → o ≡ Some (x, rest) → mark_eq m m ≡ true → peek rest ≡ see.Mark m → before m o ≡ Some (x, drop 1 rest)
 before_of m o x rest h e p = bound o (x, rest) (λ p. and_then (expect m p.1) (λ rest. Some (p.0, rest))) _ h (bound (expect m rest) (drop 1 rest) (λ l. Some (x, l)) _ (expect_found m rest e p) refl)
 
+pub ends_comma : Ends (see.Mark mark.Comma)
+unfolding Ends loose
+ends_comma = omega arith
+
+pub ends_close : Ends (see.Mark mark.RoundClose)
+unfolding Ends loose
+ends_close = omega arith
+
 follows_comma : Follows (see.Mark mark.Comma)
 unfolding Follows Ends loose
 follows_comma = (omega arith, refl, refl)
@@ -77,7 +85,7 @@ pub test_found : (ts : List Token) (x : Ex) (rest : List Token) → Test ts x re
 test_found ts x rest (is_test {mid = mid} p e q) =
     bound (expect mark.RoundOpen ts) (drop 1 ts) (λ rest. before mark.RoundClose (expression rest)) _ (expect_found mark.RoundOpen ts refl p) (round_found (drop 1 ts) x mid e q)
 
-test_short : (ts : List Token) (x : Ex) (rest : List Token) → Test ts x rest → length rest ≤ length ts
+pub test_short : (ts : List Token) (x : Ex) (rest : List Token) → Test ts x rest → length rest ≤ length ts
 test_short ts x rest (is_test {mid = mid} p e q) = let a = expression_short (drop 1 ts) x mid e in let b = length-drop 1 ts in let c = length-drop 1 mid in omega (arith, a, b, c)
 
 invariant_found : (ts : List Token) (x : Ex) (rest : List Token) → Invariant ts x rest → invariant_ ts ≡ Some (x, rest)
@@ -214,7 +222,7 @@ mutual
               (ap (λ f. asked (is_decreases f) (expression_end c)) q ∙ semicolon_found (drop 1 c) m u measure s)
           (bound (block (statement b) (drop 1 u)) (bodied xs d rest) (λ b. Some (stated (While (spot_of ts) t is m b.trees) (suc b.height) b.rest)) _ (block_of inner b (omega (arith, k))) refl)))
 
-  block_of : {d : ℕ} {ts : List Token} {xs : Sts} {rest : List Token} → Block d ts xs rest → (b : ℕ) → d ≤ b → block (statement b) ts ≡ Some (bodied xs d rest)
+  pub block_of : {d : ℕ} {ts : List Token} {xs : Sts} {rest : List Token} → Block d ts xs rest → (b : ℕ) → d ≤ b → block (statement b) ts ≡ Some (bodied xs d rest)
   block_of (is_block {d = d} {ts = ts} {mid = mid} {xs = xs} p inner q) b k =
       bound (expect mark.BraceOpen ts) (drop 1 ts) (λ rest. body (statement b) (length rest) no_sts 0 rest) _ (expect_found mark.BraceOpen ts refl p) (body_of inner b (length (drop 1 ts)) k (omega arith) q)
 
