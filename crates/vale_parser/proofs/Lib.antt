@@ -1,6 +1,7 @@
 pub mod Bodies
 pub mod Found
 pub mod FoundArguments
+pub mod FoundDeclarations
 pub mod FoundLemmas
 pub mod FoundStatements
 pub mod Parts

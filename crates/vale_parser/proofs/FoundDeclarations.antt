@@ -1,0 +1,149 @@
+-- Clauses and declarations that are spelled are found.
+use Rattle.std.proofs.Common.{◌≡◌, ℕ, zero, suc, ◌+◌, ◌<◌, ◌≤◌, max, Bool, true, false, cond, List, [], ◌∷◌, length, drop, length-drop, Option, Some, None, refl, sym, ◌∙◌, ap, subst, arith}
+use Rattle.x64_syntax.specs.declared.keywords.Keyword.{Keyword}
+use Rattle.x64_syntax.specs.declared.keywords.Keyword.TheVariants as word
+use Rattle.vale_syntax.specs.declared.token.Token.{Token}
+use Rattle.vale_syntax.specs.declared.spot.Spot.{Spot}
+use Rattle.vale_syntax.specs.declared.mark.Mark.TheVariants as mark
+use Rattle.vale_syntax.specs.declared.lookahead.Lookahead.{Lookahead}
+use Rattle.vale_syntax.specs.declared.lookahead.Lookahead.TheVariants as see
+use Rattle.vale_syntax.specs.declared.expr.Name.{Name}
+use Rattle.vale_syntax.specs.declared.statement.SortName.{SortName}
+use Rattle.vale_syntax.specs.declared.declaration.AbiName.{AbiName}
+use Rattle.vale_syntax.specs.declared.declaration.Bind.{Bind}
+use Rattle.vale_syntax.specs.declared.declaration.Param.{Param}
+use Rattle.vale_syntax.specs.declared.declaration.ReadPlace.{ReadPlace}
+use Rattle.vale_syntax.specs.Peek.{peek, spot_of}
+use Rattle.vale_syntax.specs.Trees.{Ex}
+use Rattle.vale_syntax.specs.Expressions.{name_of}
+use Rattle.vale_syntax.specs.Lists.{Closed, Separated, Many}
+use Rattle.vale_syntax.specs.Programs.{Cl, Reads, Modifies, Requires, Ensures, Stack, Abi, LCl, LRequires, LEnsures, LDecreases, De, Procedure, Lemma, Function, Export}
+use Rattle.vale_syntax.specs.Statements.{Expression, sort_at, statement_limit}
+use Rattle.vale_syntax.specs.Declarations.{IsName, name as is_name_, IsBind, bind as is_bind, IsSecret, secret, open_, IsPlace, place as is_place, IsParam, operand, out, inline_, ghost_, block as is_block, direction_by, abi_at, IsClause, reads, modifies, requires_, ensures_, stack, abi_, IsLClause, lrequires, lensures, ldecreases, Head, Declaration, procedure_ as is_procedure, lemma_ as is_lemma, function_ as is_function, recursive, export_ as is_export}
+use Rattle.expr_parser.specs.Reads.{expression}
+use Rattle.vale_parser.specs.Parts.{bind as and_then, is_mark, expect, before, separated, closed, many}
+use Rattle.vale_parser.specs.Productions.{asked, is_zero, is_step, name, sort_behind, bind, place, parameter, expression_end, abi_clause, reads_clause, modifies_clause, clause_by, clause, begins_clause, lclause_by, lclause, begins_lclause, head, block, statement, lblock, lstatement, bodied, lbodied, procedure_, lemma_, Header, header, plain_at, parts_at, result_by, result_at, function_, export_, declaration_by, declaration}
+use Rattle.vale_parser.proofs.Parts.{bound, expect_found, mark_left, word_left, name_left, separated_found, separated_short, closed_found, many_found}
+use Rattle.vale_parser.proofs.Found.{dd, expression_short, semicolon_found, name_found, is_name_found, sort_behind_found, bind_found, place_found, parameter_found}
+use Rattle.vale_parser.proofs.FoundStatements.{name_at, sort_behind_at, expect_at, before_of, block_of}
+use Rattle.vale_parser.proofs.FoundLemmas.{expressions_found, block_of as lblock_of}
+
+-- nothing has to follow a name, a place or a parameter
+Any : Lookahead → Type 0
+Any f = Unit {0}
+
+name_short : (ts : List Token) (n : Name) (rest : List Token) → IsName ts n rest → length rest ≤ length ts
+name_short ts n rest (is_name_ p) = let a = length-drop 1 ts in omega (arith, a)
+
+secret_short : (ts : List Token) (b : Bool) (rest : List Token) → IsSecret ts b rest → length rest ≤ length ts
+secret_short ts b rest (secret p) = let a = length-drop 1 ts in omega (arith, a)
+secret_short ts b rest open_ = omega arith
+
+place_short : (ts : List Token) (r : ReadPlace) (rest : List Token) → IsPlace ts r rest → length rest ≤ length ts
+place_short ts r rest (is_place {mid = mid} {b = b} s p) = let a = secret_short ts b mid s in let c = length-drop 1 mid in omega (arith, a, c)
+
+bind_short : (ts : List Token) (b : Bind) (rest : List Token) → IsBind ts b rest → length rest ≤ length ts
+bind_short ts b rest (is_bind p q r) = let a = length-drop 3 ts in omega (arith, a)
+
+bind_starts : (ts : List Token) (b : Bind) (rest : List Token) → IsBind ts b rest → is_mark mark.RoundClose (peek ts) ≡ false
+bind_starts ts b rest (is_bind p q r) = ap (is_mark mark.RoundClose) p
+
+parameter_short : (ts : List Token) (p : Param) (rest : List Token) → IsParam ts p rest → length rest ≤ length ts
+parameter_short ts p rest (operand {mid = mid} {b = b} s d q c k) = let a = secret_short ts b mid s in let e = length-drop 4 mid in omega (arith, a, e)
+parameter_short ts p rest (out q a b c) = let d = length-drop 4 ts in omega (arith, d)
+parameter_short ts p rest (inline_ q a b c) = let d = length-drop 4 ts in omega (arith, d)
+parameter_short ts p rest (ghost_ q a b c) = let d = length-drop 4 ts in omega (arith, d)
+parameter_short ts p rest (is_block {mid = mid} {b = b} s q c) = let a = secret_short ts b mid s in let e = length-drop 2 mid in omega (arith, a, e)
+
+direction_starts : (f : Lookahead) (d : _) → direction_by f ≡ Some d → is_mark mark.RoundClose f ≡ false
+direction_starts (see.Mark m) d e = absurd cc
+direction_starts _ d e = refl
+
+parameter_starts : (ts : List Token) (p : Param) (rest : List Token) → IsParam ts p rest → is_mark mark.RoundClose (peek ts) ≡ false
+parameter_starts ts p rest (operand (secret q) d a b c) = ap (is_mark mark.RoundClose) q
+parameter_starts ts p rest (operand {d = d} open_ e a b c) = direction_starts (peek ts) d e
+parameter_starts ts p rest (out q a b c) = ap (is_mark mark.RoundClose) q
+parameter_starts ts p rest (inline_ q a b c) = ap (is_mark mark.RoundClose) q
+parameter_starts ts p rest (ghost_ q a b c) = ap (is_mark mark.RoundClose) q
+parameter_starts ts p rest (is_block (secret q) e a) = ap (is_mark mark.RoundClose) q
+parameter_starts ts p rest (is_block open_ e a) = ap (is_mark mark.RoundClose) e
+
+binds_found : (ts : List Token) (xs : List Bind) (rest : List Token) → Closed IsBind ts xs rest → closed bind ts ≡ Some (xs, rest)
+unfolding Any
+binds_found = closed_found IsBind bind Any (λ ts x rest h f. bind_found ts x rest h) bind_short tt tt bind_starts
+
+parameters_found : (ts : List Token) (xs : List Param) (rest : List Token) → Closed IsParam ts xs rest → closed parameter ts ≡ Some (xs, rest)
+unfolding Any
+parameters_found = closed_found IsParam parameter Any (λ ts x rest h f. parameter_found ts x rest h) parameter_short tt tt parameter_starts
+
+places_found : (ts : List Token) (xs : List ReadPlace) (rest : List Token) → Separated IsPlace ts xs rest → peek rest ≡ see.Mark mark.Semicolon → separated place ts ≡ Some (xs, rest)
+unfolding Any
+places_found ts xs rest h p = separated_found IsPlace place Any (λ ts x rest h f. place_found ts x rest h) place_short tt ts xs rest h (ap (is_mark mark.Comma) p) tt
+
+names_found : (ts : List Token) (xs : List Name) (rest : List Token) → Separated IsName ts xs rest → peek rest ≡ see.Mark mark.Semicolon → separated name ts ≡ Some (xs, rest)
+unfolding Any
+names_found ts xs rest h p = separated_found IsName name Any (λ ts x rest h f. is_name_found ts x rest h) name_short tt ts xs rest h (ap (is_mark mark.Comma) p) tt
+
+places_short : (ts : List Token) (xs : List ReadPlace) (rest : List Token) → Separated IsPlace ts xs rest → length rest ≤ length ts
+unfolding Any
+places_short = separated_short IsPlace place Any (λ ts x rest h f. place_found ts x rest h) place_short
+
+names_short : (ts : List Token) (xs : List Name) (rest : List Token) → Separated IsName ts xs rest → length rest ≤ length ts
+unfolding Any
+names_short = separated_short IsName name Any (λ ts x rest h f. is_name_found ts x rest h) name_short
+
+-- clauses
+clause_found : (ts : List Token) (c : Cl) (rest : List Token) → IsClause ts c rest → clause ts ≡ Some (c, rest)
+unfolding clause
+clause_found ts c rest (reads {mid = mid} {ps = ps} p h s) =
+    ap (λ f. clause_by f ts) p ∙ bound (before mark.Semicolon (separated place (drop 1 ts))) (ps, drop 1 mid) (λ p. Some (Reads (spot_of ts) p.0, p.1)) _ (before_of mark.Semicolon (separated place (drop 1 ts)) ps mid (places_found (drop 1 ts) ps mid h s) refl s) refl
+clause_found ts c rest (modifies {mid = mid} {ns = ns} p h s) =
+    ap (λ f. clause_by f ts) p ∙ bound (before mark.Semicolon (separated name (drop 1 ts))) (ns, drop 1 mid) (λ p. Some (Modifies (spot_of ts) p.0, p.1)) _ (before_of mark.Semicolon (separated name (drop 1 ts)) ns mid (names_found (drop 1 ts) ns mid h s) refl s) refl
+clause_found ts c rest (requires_ {mid = mid} {x = x} p e s) = ap (λ f. clause_by f ts) p ∙ bound (expression_end ts) (x, drop 1 mid) (λ x. Some (Requires (spot_of ts) x.0, x.1)) _ (semicolon_found (drop 1 ts) x mid e s) refl
+clause_found ts c rest (ensures_ {mid = mid} {x = x} p e s) = ap (λ f. clause_by f ts) p ∙ bound (expression_end ts) (x, drop 1 mid) (λ x. Some (Ensures (spot_of ts) x.0, x.1)) _ (semicolon_found (drop 1 ts) x mid e s) refl
+clause_found ts c rest (stack {mid = mid} {x = x} p e s) = ap (λ f. clause_by f ts) p ∙ bound (expression_end ts) (x, drop 1 mid) (λ x. Some (Stack (spot_of ts) x.0, x.1)) _ (semicolon_found (drop 1 ts) x mid e s) refl
+clause_found ts c rest (abi_ {a = a} p q s) =
+    ap (λ f. clause_by f ts) p
+    ∙ bound (abi_at (drop 1 ts)) a (λ a. and_then (expect mark.Semicolon (drop 1 (drop 1 ts))) (λ rest. Some (Abi (spot_of ts) a, rest))) _ q
+        (ap (λ l. and_then (expect mark.Semicolon l) (λ rest. Some (Abi (spot_of ts) a, rest))) (dd 1 1 ts) ∙ bound (expect mark.Semicolon (drop 2 ts)) (drop 3 ts) (λ rest. Some (Abi (spot_of ts) a, rest)) _ (expect_at mark.Semicolon 2 ts refl s) refl)
+
+clause_begins : (ts : List Token) (c : Cl) (rest : List Token) → IsClause ts c rest → begins_clause (peek ts) ≡ true
+clause_begins ts c rest (reads p h s) = ap begins_clause p
+clause_begins ts c rest (modifies p h s) = ap begins_clause p
+clause_begins ts c rest (requires_ p e s) = ap begins_clause p
+clause_begins ts c rest (ensures_ p e s) = ap begins_clause p
+clause_begins ts c rest (stack p e s) = ap begins_clause p
+clause_begins ts c rest (abi_ p q s) = ap begins_clause p
+
+end_shorter : (k : Keyword) (ts : List Token) (x : Ex) (mid : List Token) → peek ts ≡ see.Keyword k → Expression (drop 1 ts) x mid → suc (length (drop 1 mid)) ≤ length ts
+end_shorter k ts x mid p e = let a = expression_short (drop 1 ts) x mid e in let b = length-drop 1 ts in let c = length-drop 1 mid in let d = word_left ts k p in omega (arith, a, b, c, d)
+
+clause_shorter : (ts : List Token) (c : Cl) (rest : List Token) → IsClause ts c rest → suc (length rest) ≤ length ts
+clause_shorter ts c rest (reads {mid = mid} {ps = ps} p h s) = let a = places_short (drop 1 ts) ps mid h in let b = length-drop 1 ts in let e = length-drop 1 mid in let d = word_left ts word.Reads p in omega (arith, a, b, e, d)
+clause_shorter ts c rest (modifies {mid = mid} {ns = ns} p h s) = let a = names_short (drop 1 ts) ns mid h in let b = length-drop 1 ts in let e = length-drop 1 mid in let d = word_left ts word.Modifies p in omega (arith, a, b, e, d)
+clause_shorter ts c rest (requires_ {mid = mid} {x = x} p e s) = end_shorter word.Requires ts x mid p e
+clause_shorter ts c rest (ensures_ {mid = mid} {x = x} p e s) = end_shorter word.Ensures ts x mid p e
+clause_shorter ts c rest (stack {mid = mid} {x = x} p e s) = end_shorter word.Stack ts x mid p e
+clause_shorter ts c rest (abi_ p q s) = let a = length-drop 3 ts in let d = word_left ts word.Abi p in omega (arith, a, d)
+
+lclause_found : (ts : List Token) (c : LCl) (rest : List Token) → IsLClause ts c rest → lclause ts ≡ Some (c, rest)
+unfolding lclause
+lclause_found ts c rest (lrequires {mid = mid} {x = x} p e s) = ap (λ f. lclause_by f ts) p ∙ bound (expression_end ts) (x, drop 1 mid) (λ x. Some (LRequires (spot_of ts) x.0, x.1)) _ (semicolon_found (drop 1 ts) x mid e s) refl
+lclause_found ts c rest (lensures {mid = mid} {x = x} p e s) = ap (λ f. lclause_by f ts) p ∙ bound (expression_end ts) (x, drop 1 mid) (λ x. Some (LEnsures (spot_of ts) x.0, x.1)) _ (semicolon_found (drop 1 ts) x mid e s) refl
+lclause_found ts c rest (ldecreases {mid = mid} {x = x} p e s) = ap (λ f. lclause_by f ts) p ∙ bound (expression_end ts) (x, drop 1 mid) (λ x. Some (LDecreases (spot_of ts) x.0, x.1)) _ (semicolon_found (drop 1 ts) x mid e s) refl
+
+lclause_begins : (ts : List Token) (c : LCl) (rest : List Token) → IsLClause ts c rest → begins_lclause (peek ts) ≡ true
+lclause_begins ts c rest (lrequires p e s) = ap begins_lclause p
+lclause_begins ts c rest (lensures p e s) = ap begins_lclause p
+lclause_begins ts c rest (ldecreases p e s) = ap begins_lclause p
+
+lclause_shorter : (ts : List Token) (c : LCl) (rest : List Token) → IsLClause ts c rest → suc (length rest) ≤ length ts
+lclause_shorter ts c rest (lrequires {mid = mid} {x = x} p e s) = end_shorter word.Requires ts x mid p e
+lclause_shorter ts c rest (lensures {mid = mid} {x = x} p e s) = end_shorter word.Ensures ts x mid p e
+lclause_shorter ts c rest (ldecreases {mid = mid} {x = x} p e s) = end_shorter word.Decreases ts x mid p e
+
+clauses_found : (ts : List Token) (xs : List Cl) (rest : List Token) → Many IsClause [] ts xs rest → peek rest ≡ see.Mark mark.BraceOpen → many begins_clause clause (length ts) [] ts ≡ Some (xs, rest)
+clauses_found ts xs rest h p = many_found IsClause clause begins_clause clause_found clause_begins clause_shorter [] ts xs rest h (length ts) (omega arith) (ap begins_clause p)
+
+lclauses_found : (ts : List Token) (xs : List LCl) (rest : List Token) → Many IsLClause [] ts xs rest → peek rest ≡ see.Mark mark.BraceOpen → many begins_lclause lclause (length ts) [] ts ≡ Some (xs, rest)
+lclauses_found ts xs rest h p = many_found IsLClause lclause begins_lclause lclause_found lclause_begins lclause_shorter [] ts xs rest h (length ts) (omega arith) (ap begins_lclause p)
