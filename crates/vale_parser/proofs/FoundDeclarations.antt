@@ -17,8 +17,8 @@ use Rattle.vale_syntax.specs.Peek.{peek, spot_of}
 use Rattle.vale_syntax.specs.Trees.{Ex}
 use Rattle.vale_syntax.specs.Expressions.{name_of}
 use Rattle.vale_syntax.specs.Lists.{Closed, Separated, Many}
-use Rattle.vale_syntax.specs.Programs.{Cl, Reads, Modifies, Requires, Ensures, Stack, Abi, LCl, LRequires, LEnsures, LDecreases, De, Procedure, Lemma, Function, Export}
-use Rattle.vale_syntax.specs.Statements.{Expression, sort_at, statement_limit}
+use Rattle.vale_syntax.specs.Programs.{Sts, LSts, Cl, Reads, Modifies, Requires, Ensures, Stack, Abi, LCl, LRequires, LEnsures, LDecreases, De, Procedure, Lemma, Function, Export}
+use Rattle.vale_syntax.specs.Statements.{Expression, sort_at, Block, block as st_block, LBlock, lblock as st_lblock, statement_limit}
 use Rattle.vale_syntax.specs.Declarations.{IsName, name as is_name_, IsBind, bind as is_bind, IsSecret, secret, open_, IsPlace, place as is_place, IsParam, operand, out, inline_, ghost_, block as is_block, direction_by, abi_at, IsClause, reads, modifies, requires_, ensures_, stack, abi_, IsLClause, lrequires, lensures, ldecreases, Head, Declaration, procedure_ as is_procedure, lemma_ as is_lemma, function_ as is_function, recursive, export_ as is_export}
 use Rattle.expr_parser.specs.Reads.{expression}
 use Rattle.vale_parser.specs.Parts.{bind as and_then, is_mark, expect, before, separated, closed, many}
@@ -147,3 +147,75 @@ clauses_found ts xs rest h p = many_found IsClause clause begins_clause clause_f
 
 lclauses_found : (ts : List Token) (xs : List LCl) (rest : List Token) → Many IsLClause [] ts xs rest → peek rest ≡ see.Mark mark.BraceOpen → many begins_lclause lclause (length ts) [] ts ≡ Some (xs, rest)
 lclauses_found ts xs rest h p = many_found IsLClause lclause begins_lclause lclause_found lclause_begins lclause_shorter [] ts xs rest h (length ts) (omega arith) (ap begins_lclause p)
+
+-- declarations
+head_found : (k : Lookahead) (ts : List Token) → Head k ts → head ts ≡ Some (name_of (drop 1 ts), drop 3 ts)
+head_found k ts h = before_of mark.RoundOpen (name (drop 1 ts)) (name_of (drop 1 ts)) (drop 2 ts) (name_at 1 ts h.is_name) refl h.opens ∙ ap (λ l. Some (name_of (drop 1 ts), l)) (dd 2 1 ts)
+
+block_opens : {d : ℕ} {ts : List Token} {xs : Sts} {rest : List Token} → Block d ts xs rest → peek ts ≡ see.Mark mark.BraceOpen
+block_opens (st_block p b q) = p
+
+lblock_opens : {d : ℕ} {ts : List Token} {xs : LSts} {rest : List Token} → LBlock d ts xs rest → peek ts ≡ see.Mark mark.BraceOpen
+lblock_opens (st_lblock p b q) = p
+
+plain_found : (h : Header) (ts : List Token) (x : Ex) (rest : List Token) → peek ts ≡ see.Mark mark.Equals → Expression (drop 1 ts) x rest → peek rest ≡ see.Mark mark.Semicolon → result_at h ts ≡ Some (Function h.spot h.name h.binds h.sort None x, drop 1 rest)
+plain_found h ts x rest p e s =
+    ap (λ f. result_by h f ts) p ∙ bound (expression_end ts) (x, drop 1 rest) (λ x. Some (Function h.spot h.name h.binds h.sort None x.0, x.1)) _ (semicolon_found (drop 1 ts) x rest e s) refl
+
+-- a keyword, an expression and a semicolon
+word_found : (is : Lookahead → Bool) (ts : List Token) (x : Ex) (rest : List Token) → is (peek ts) ≡ true → Expression (drop 1 ts) x rest → peek rest ≡ see.Mark mark.Semicolon → asked (is (peek ts)) (expression_end ts) ≡ Some (x, drop 1 rest)
+word_found is ts x rest p e s = ap (λ t. asked t (expression_end ts)) p ∙ semicolon_found (drop 1 ts) x rest e s
+
+parts_found : (h : Header) (ts : List Token) (x y : Ex) (b c : List Token) → peek ts ≡ see.Mark mark.BraceOpen → peek (drop 1 ts) ≡ see.Keyword word.Zero → Expression (drop 2 ts) x b → peek b ≡ see.Mark mark.Semicolon
+    → peek (drop 1 b) ≡ see.Keyword word.Step → Expression (drop 2 b) y c → peek c ≡ see.Mark mark.Semicolon → peek (drop 1 c) ≡ see.Mark mark.BraceClose
+    → result_at h ts ≡ Some (Function h.spot h.name h.binds h.sort (Some x) y, drop 2 c)
+parts_found h ts x y b c p q e s t g u v =
+    ap (λ f. result_by h f ts) p
+    ∙ bound (asked (is_zero (peek (drop 1 ts))) (expression_end (drop 1 ts))) (x, drop 1 b) (λ x. and_then (asked (is_step (peek x.1)) (expression_end x.1)) (λ y.
+        and_then (expect mark.BraceClose y.1) (λ rest. Some (Function h.spot h.name h.binds h.sort (Some x.0) y.0, rest)))) _
+        (word_found is_zero (drop 1 ts) x b (ap is_zero q) (subst (λ l. Expression l x b) (sym (dd 1 1 ts)) e) s)
+    (bound (asked (is_step (peek (drop 1 b))) (expression_end (drop 1 b))) (y, drop 1 c) (λ y. and_then (expect mark.BraceClose y.1) (λ rest. Some (Function h.spot h.name h.binds h.sort (Some x) y.0, rest))) _
+        (word_found is_step (drop 1 b) y c (ap is_step t) (subst (λ l. Expression l y c) (sym (dd 1 1 b)) g) u)
+    (bound (expect mark.BraceClose (drop 1 c)) (drop 2 c) (λ rest. Some (Function h.spot h.name h.binds h.sort (Some x) y, rest)) _ (expect_at mark.BraceClose 1 c refl v) refl))
+
+function_found : (ts a : List Token) (bs : List Bind) (s : SortName) (x : De) (rest : List Token) → Head (see.Keyword word.Function) ts → Closed IsBind (drop 3 ts) bs a → peek a ≡ see.Mark mark.Colon → sort_at (drop 1 a) ≡ Some s
+    → result_at (header (spot_of ts) (name_of (drop 1 ts)) bs s) (drop 2 a) ≡ Some (x, rest) → declaration ts ≡ Some (x, rest)
+unfolding declaration
+function_found ts a bs s x rest h c p q r =
+    ap (λ f. declaration_by f ts) h.keyword
+    ∙ bound (head ts) (name_of (drop 1 ts), drop 3 ts) (λ n. and_then (closed bind n.1) (λ bs. and_then (sort_behind bs.1) (λ s. result_at (header (spot_of ts) n.0 bs.0 s.0) s.1))) _ (head_found (see.Keyword word.Function) ts h)
+    (bound (closed bind (drop 3 ts)) (bs, a) (λ bs. and_then (sort_behind bs.1) (λ s. result_at (header (spot_of ts) (name_of (drop 1 ts)) bs.0 s.0) s.1)) _ (binds_found (drop 3 ts) bs a c)
+    (bound (sort_behind a) (s, drop 2 a) (λ s. result_at (header (spot_of ts) (name_of (drop 1 ts)) bs s.0) s.1) _ (sort_behind_found a s p q) r))
+
+pub declaration_found : (ts : List Token) (x : De) (rest : List Token) → Declaration ts x rest → declaration ts ≡ Some (x, rest)
+unfolding declaration
+declaration_found ts x rest (is_procedure {d = d} {a = a} {b = b} {ps = ps} {cs = cs} {body = body} h c m blk k) =
+    ap (λ f. declaration_by f ts) h.keyword
+    ∙ bound (head ts) (name_of (drop 1 ts), drop 3 ts) (λ n. and_then (closed parameter n.1) (λ ps. and_then (many begins_clause clause (length ps.1) [] ps.1) (λ cs.
+        and_then (block (statement statement_limit) cs.1) (λ b. Some (Procedure (spot_of ts) n.0 ps.0 cs.0 b.trees, b.rest))))) _ (head_found (see.Keyword word.Procedure) ts h)
+    (bound (closed parameter (drop 3 ts)) (ps, a) (λ ps. and_then (many begins_clause clause (length ps.1) [] ps.1) (λ cs.
+        and_then (block (statement statement_limit) cs.1) (λ b. Some (Procedure (spot_of ts) (name_of (drop 1 ts)) ps.0 cs.0 b.trees, b.rest)))) _ (parameters_found (drop 3 ts) ps a c)
+    (bound (many begins_clause clause (length a) [] a) (cs, b) (λ cs. and_then (block (statement statement_limit) cs.1) (λ b. Some (Procedure (spot_of ts) (name_of (drop 1 ts)) ps cs.0 b.trees, b.rest))) _ (clauses_found a cs b m (block_opens blk))
+    (bound (block (statement statement_limit) b) (bodied body d rest) (λ b. Some (Procedure (spot_of ts) (name_of (drop 1 ts)) ps cs b.trees, b.rest)) _ (block_of blk statement_limit k) refl)))
+declaration_found ts x rest (is_lemma {d = d} {a = a} {b = b} {bs = bs} {cs = cs} {body = body} h c m blk k) =
+    ap (λ f. declaration_by f ts) h.keyword
+    ∙ bound (head ts) (name_of (drop 1 ts), drop 3 ts) (λ n. and_then (closed bind n.1) (λ bs. and_then (many begins_lclause lclause (length bs.1) [] bs.1) (λ cs.
+        and_then (lblock (lstatement statement_limit) cs.1) (λ b. Some (Lemma (spot_of ts) n.0 bs.0 cs.0 b.trees, b.rest))))) _ (head_found (see.Keyword word.Lemma) ts h)
+    (bound (closed bind (drop 3 ts)) (bs, a) (λ bs. and_then (many begins_lclause lclause (length bs.1) [] bs.1) (λ cs.
+        and_then (lblock (lstatement statement_limit) cs.1) (λ b. Some (Lemma (spot_of ts) (name_of (drop 1 ts)) bs.0 cs.0 b.trees, b.rest)))) _ (binds_found (drop 3 ts) bs a c)
+    (bound (many begins_lclause lclause (length a) [] a) (cs, b) (λ cs. and_then (lblock (lstatement statement_limit) cs.1) (λ b. Some (Lemma (spot_of ts) (name_of (drop 1 ts)) bs cs.0 b.trees, b.rest))) _ (lclauses_found a cs b m (lblock_opens blk))
+    (bound (lblock (lstatement statement_limit) b) (lbodied body d rest) (λ b. Some (Lemma (spot_of ts) (name_of (drop 1 ts)) bs cs b.trees, b.rest)) _ (lblock_of blk statement_limit k) refl)))
+declaration_found ts x rest (is_function {a = a} {b = b} {bs = bs} {s = s} {x = y} h c p q r e u) =
+    function_found ts a bs s _ _ h c p q (plain_found (header (spot_of ts) (name_of (drop 1 ts)) bs s) (drop 2 a) y b r (subst (λ l. Expression l y b) (sym (dd 2 1 a)) e) u)
+declaration_found ts x rest (recursive {a = a} {b = b} {c = c} {bs = bs} {s = s} {x = y} {y = z} h l p q r t e u v g w i) =
+    function_found ts a bs s _ _ h l p q
+        (parts_found (header (spot_of ts) (name_of (drop 1 ts)) bs s) (drop 2 a) y z b c r (ap peek (dd 2 1 a) ∙ t) (subst (λ l. Expression l y b) (sym (dd 2 2 a)) e) u v g w i)
+declaration_found ts x rest (is_export {a = a} {xs = xs} p q r s t c u) =
+    ap (λ f. declaration_by f ts) p
+    ∙ bound (before mark.Equals (name (drop 1 ts))) (name_of (drop 1 ts), drop 3 ts) (λ n. and_then (before mark.RoundOpen (name n.1)) (λ p.
+        and_then (before mark.Semicolon (closed expression p.1)) (λ xs. Some (Export (spot_of ts) n.0 p.0 xs.0, xs.1)))) _
+        (before_of mark.Equals (name (drop 1 ts)) (name_of (drop 1 ts)) (drop 2 ts) (name_at 1 ts q) refl r ∙ ap (λ l. Some (name_of (drop 1 ts), l)) (dd 2 1 ts))
+    (bound (before mark.RoundOpen (name (drop 3 ts))) (name_of (drop 3 ts), drop 5 ts) (λ p. and_then (before mark.Semicolon (closed expression p.1)) (λ xs. Some (Export (spot_of ts) (name_of (drop 1 ts)) p.0 xs.0, xs.1))) _
+        (before_of mark.RoundOpen (name (drop 3 ts)) (name_of (drop 3 ts)) (drop 4 ts) (name_at 3 ts s) refl t ∙ ap (λ l. Some (name_of (drop 3 ts), l)) (dd 4 1 ts))
+    (bound (before mark.Semicolon (closed expression (drop 5 ts))) (xs, drop 1 a) (λ xs. Some (Export (spot_of ts) (name_of (drop 1 ts)) (name_of (drop 3 ts)) xs.0, xs.1)) _
+        (before_of mark.Semicolon (closed expression (drop 5 ts)) xs a (expressions_found (drop 5 ts) xs a c) refl u) refl))
