@@ -5,5 +5,6 @@ pub mod FoundDeclarations
 pub mod FoundLemmas
 pub mod FoundStatements
 pub mod Parts
+pub mod Sound
 pub mod Things
 pub mod Turns
