@@ -6,5 +6,6 @@ pub mod FoundLemmas
 pub mod FoundStatements
 pub mod Parts
 pub mod Sound
+pub mod SoundStatements
 pub mod Things
 pub mod Turns
