@@ -6,6 +6,8 @@ pub mod FoundLemmas
 pub mod FoundStatements
 pub mod Parts
 pub mod Sound
+pub mod SoundDeclarations
+pub mod SoundLemmas
 pub mod SoundStatements
 pub mod Things
 pub mod Turns

@@ -44,7 +44,7 @@ if_is : (f : Lookahead) → is_if f ≡ true → f ≡ see.Keyword word.If
 if_is (see.Keyword word.If) h = refl
 if_is _ h = absurd (false≢true h)
 
-else_is : (f : Lookahead) → is_else f ≡ true → f ≡ see.Keyword word.Else
+pub else_is : (f : Lookahead) → is_else f ≡ true → f ≡ see.Keyword word.Else
 else_is (see.Keyword word.Else) h = refl
 else_is _ h = absurd (false≢true h)
 
