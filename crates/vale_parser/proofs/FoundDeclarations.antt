@@ -23,10 +23,10 @@ use Rattle.vale_syntax.specs.Declarations.{IsName, name as is_name_, IsBind, bin
 use Rattle.expr_parser.specs.Reads.{expression}
 use Rattle.vale_parser.specs.Parts.{bind as and_then, is_mark, expect, before, separated, closed, many}
 use Rattle.vale_parser.specs.Productions.{asked, is_zero, is_step, name, sort_behind, bind, place, parameter, expression_end, abi_clause, reads_clause, modifies_clause, clause_by, clause, begins_clause, lclause_by, lclause, begins_lclause, head, block, statement, lblock, lstatement, bodied, lbodied, procedure_, lemma_, Header, header, plain_at, parts_at, result_by, result_at, function_, export_, declaration_by, declaration}
-use Rattle.vale_parser.proofs.Parts.{bound, expect_found, mark_left, word_left, name_left, separated_found, separated_short, closed_found, many_found}
-use Rattle.vale_parser.proofs.Found.{dd, expression_short, semicolon_found, name_found, is_name_found, sort_behind_found, bind_found, place_found, parameter_found}
-use Rattle.vale_parser.proofs.FoundStatements.{name_at, sort_behind_at, expect_at, before_of, block_of}
-use Rattle.vale_parser.proofs.FoundLemmas.{expressions_found, block_of as lblock_of}
+use Rattle.vale_parser.proofs.Parts.{bound, expect_found, mark_left, word_left, name_left, separated_found, separated_short, closed_found, closed_short, many_found, many_short}
+use Rattle.vale_parser.proofs.Found.{dd, Ends, expression_found, expression_short, semicolon_found, name_found, is_name_found, sort_behind_found, bind_found, place_found, parameter_found}
+use Rattle.vale_parser.proofs.FoundStatements.{name_at, sort_behind_at, expect_at, before_of, block_of, block_short}
+use Rattle.vale_parser.proofs.FoundLemmas.{expressions_found, block_of as lblock_of, block_short as lblock_short}
 
 -- nothing has to follow a name, a place or a parameter
 Any : Lookahead → Type 0
@@ -219,3 +219,55 @@ declaration_found ts x rest (is_export {a = a} {xs = xs} p q r s t c u) =
         (before_of mark.RoundOpen (name (drop 3 ts)) (name_of (drop 3 ts)) (drop 4 ts) (name_at 3 ts s) refl t ∙ ap (λ l. Some (name_of (drop 3 ts), l)) (dd 4 1 ts))
     (bound (before mark.Semicolon (closed expression (drop 5 ts))) (xs, drop 1 a) (λ xs. Some (Export (spot_of ts) (name_of (drop 1 ts)) (name_of (drop 3 ts)) xs.0, xs.1)) _
         (before_of mark.Semicolon (closed expression (drop 5 ts)) xs a (expressions_found (drop 5 ts) xs a c) refl u) refl))
+
+-- a declaration takes tokens
+head_left : (k : Keyword) (ts : List Token) → Head (see.Keyword k) ts → 1 ≤ length ts
+head_left k ts h = word_left ts k h.keyword
+
+binds_short : (ts : List Token) (xs : List Bind) (rest : List Token) → Closed IsBind ts xs rest → length rest ≤ length ts
+unfolding Any
+binds_short = closed_short IsBind bind Any (λ ts x rest h f. bind_found ts x rest h) bind_short
+
+parameters_short : (ts : List Token) (xs : List Param) (rest : List Token) → Closed IsParam ts xs rest → length rest ≤ length ts
+unfolding Any
+parameters_short = closed_short IsParam parameter Any (λ ts x rest h f. parameter_found ts x rest h) parameter_short
+
+pub declaration_shorter : (ts : List Token) (x : De) (rest : List Token) → Declaration ts x rest → suc (length rest) ≤ length ts
+declaration_shorter ts x rest (is_procedure {a = a} {b = b} {ps = ps} {cs = cs} h c m blk k) =
+    let f = parameters_short (drop 3 ts) ps a c in
+    let g = many_short IsClause clause begins_clause clause_found clause_begins clause_shorter [] a cs b m in
+    let i = block_short blk in
+    let j = length-drop 3 ts in
+    let l = head_left word.Procedure ts h in
+    omega (arith, f, g, i, j, l)
+declaration_shorter ts x rest (is_lemma {a = a} {b = b} {bs = bs} {cs = cs} h c m blk k) =
+    let f = binds_short (drop 3 ts) bs a c in
+    let g = many_short IsLClause lclause begins_lclause lclause_found lclause_begins lclause_shorter [] a cs b m in
+    let i = lblock_short blk in
+    let j = length-drop 3 ts in
+    let l = head_left word.Lemma ts h in
+    omega (arith, f, g, i, j, l)
+declaration_shorter ts x rest (is_function {a = a} {b = b} {bs = bs} {x = y} h c p q r e u) =
+    let f = binds_short (drop 3 ts) bs a c in
+    let g = expression_short (drop 3 a) y b e in
+    let j = length-drop 3 ts in
+    let k = length-drop 3 a in
+    let i = length-drop 1 b in
+    let l = head_left word.Function ts h in
+    omega (arith, f, g, i, j, k, l)
+declaration_shorter ts x rest (recursive {a = a} {b = b} {c = c} {bs = bs} {x = y} {y = z} h m p q r t e u v g w i) =
+    let f = binds_short (drop 3 ts) bs a m in
+    let n = expression_short (drop 4 a) y b e in
+    let o = expression_short (drop 2 b) z c g in
+    let j = length-drop 3 ts in
+    let k = length-drop 4 a in
+    let s = length-drop 2 b in
+    let d = length-drop 2 c in
+    let l = head_left word.Function ts h in
+    omega (arith, f, n, o, j, k, s, d, l)
+declaration_shorter ts x rest (is_export {a = a} {xs = xs} p q r s t c u) =
+    let f = closed_short Expression expression Ends expression_found expression_short (drop 5 ts) xs a c in
+    let g = length-drop 5 ts in
+    let h = length-drop 1 a in
+    let i = word_left ts word.Export p in
+    omega (arith, f, g, h, i)

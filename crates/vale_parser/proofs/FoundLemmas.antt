@@ -45,7 +45,7 @@ mutual
   statement_shorter (lif {ts = ts} {a = a} {t = t} p tested b e) =
       let f = test_short (drop 1 ts) t a tested in let g = block_short b in let h = else_short e in let i = length-drop 1 ts in let j = word_left ts word.If p in omega (arith, f, g, h, i, j)
 
-  block_short : {d : ℕ} {ts : List Token} {xs : LSts} {rest : List Token} → LBlock d ts xs rest → length rest ≤ length ts
+  pub block_short : {d : ℕ} {ts : List Token} {xs : LSts} {rest : List Token} → LBlock d ts xs rest → length rest ≤ length ts
   block_short (is_lblock {ts = ts} {mid = mid} p b q) = let f = body_short b in let g = length-drop 1 ts in let h = length-drop 1 mid in omega (arith, f, g, h)
 
   body_short : {d : ℕ} {xs : LSts} {ts : List Token} {e : ℕ} {ys : LSts} {rest : List Token} → LBody d xs ts e ys rest → length rest ≤ length ts

@@ -164,7 +164,7 @@ mutual
   statement_shorter (inline_if {ts = ts} {a = a} {t = t} p q tested b e) =
       let f = test_short (drop 2 ts) t a tested in let g = block_short b in let h = else_short e in let i = length-drop 2 ts in let j = word_left ts word.Inline p in omega (arith, f, g, h, i, j)
 
-  block_short : {d : ℕ} {ts : List Token} {xs : Sts} {rest : List Token} → Block d ts xs rest → length rest ≤ length ts
+  pub block_short : {d : ℕ} {ts : List Token} {xs : Sts} {rest : List Token} → Block d ts xs rest → length rest ≤ length ts
   block_short (is_block {ts = ts} {mid = mid} p b q) = let f = body_short b in let g = length-drop 1 ts in let h = length-drop 1 mid in omega (arith, f, g, h)
 
   body_short : {d : ℕ} {xs : Sts} {ts : List Token} {e : ℕ} {ys : Sts} {rest : List Token} → Body d xs ts e ys rest → length rest ≤ length ts

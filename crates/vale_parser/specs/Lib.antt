@@ -2,4 +2,5 @@ pub mod Looks
 pub mod Parts
 pub mod Productions
 pub mod Reads
+pub mod Sources
 pub mod Things

@@ -9,5 +9,8 @@ mod front;
 mod lemma_statements;
 mod parameters;
 mod part;
+mod sources;
 mod statements;
 mod words;
+
+pub use sources::{ParseFault, declared_once, read_decls};

@@ -1,0 +1,31 @@
+-- Whole sources.
+use Rattle.std.proofs.Common.{◌≡◌, ◌≤◌, suc, length, List, [], ◌∷◌, ◌++◌, Option, Some, None, refl, sym, ◌∙◌, ap, subst, arith}
+use Rattle.vale_syntax.specs.declared.token.Token.{Token}
+use Rattle.vale_syntax.specs.Programs.{De}
+use Rattle.vale_syntax.specs.Declarations.{Declaration, AreDecls, no_decls, more_decls}
+use Rattle.vale_parser.specs.Productions.{declaration}
+use Rattle.vale_parser.specs.Sources.{Front, no_more, one_more, StopsAt}
+use Rattle.vale_parser.proofs.Sound.{pair_of}
+use Rattle.vale_parser.proofs.FoundDeclarations.{declaration_found, declaration_shorter}
+
+pub front_last : {ts mid rest : List Token} {xs : List De} {x : De} → Front ts xs mid → Declaration mid x rest → Front ts (xs ++ x ∷ []) rest
+front_last no_more d = one_more d no_more
+front_last (one_more e f) d = one_more e (front_last f d)
+
+pub front_all : {ts : List Token} {xs : List De} (rest : List Token) → Front ts xs rest → rest ≡ [] → AreDecls ts xs
+front_all rest no_more e = subst (λ l. AreDecls l []) (sym e) no_decls
+front_all rest (one_more d f) e = more_decls d (front_all rest f e)
+
+pub one : (ts : List Token) (x y : De) (r q : List Token) → Declaration ts x r → Declaration ts y q → (x ≡ y) × (r ≡ q)
+one ts x y r q h k = pair_of (x, r) (y, q) (sym (declaration_found ts x r h) ∙ declaration_found ts y q k)
+
+nothing : (x : De) (rest : List Token) → Declaration [] x rest → ⊥
+nothing x rest d = let s = declaration_shorter [] x rest d in omega (arith, s)
+
+pub all : (ts : List Token) (xs ys : List De) → AreDecls ts xs → AreDecls ts ys → xs ≡ ys
+all ts xs ys no_decls no_decls = refl
+all ts xs ys no_decls (more_decls {rest = r} {x = y} d f) = absurd (nothing y r d)
+all ts xs ys (more_decls {rest = r} {x = x} d f) no_decls = absurd (nothing x r d)
+all ts xs ys (more_decls {rest = r} {x = x} {xs = us} d f) (more_decls {rest = q} {x = y} {xs = vs} e g) =
+    let p = one ts x y r q d e in
+    ap (λ z. z ∷ us) p.0 ∙ ap (λ l. y ∷ l) (all q us vs (subst (λ l. AreDecls l us) p.1 f) g)
