@@ -9,6 +9,6 @@ pub mod Sound
 pub mod SoundDeclarations
 pub mod SoundLemmas
 pub mod SoundStatements
-pub mod Sources
 pub mod Things
 pub mod Turns
+pub mod Whole

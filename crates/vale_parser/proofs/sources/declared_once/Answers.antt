@@ -1,4 +1,4 @@
-use Rattle.vale_parser.proofs.Sources.{one, all}
+use Rattle.vale_parser.proofs.Whole.{one, all}
 use Rattle.vale_parser.proofs.sources.declared_once.Goals as goal
 
 pub returns-clause-one : goal.returns-clause-one

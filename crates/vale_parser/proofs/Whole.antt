@@ -1,5 +1,6 @@
 -- Whole sources.
-use Rattle.std.proofs.Common.{◌≡◌, ◌≤◌, suc, length, List, [], ◌∷◌, ◌++◌, Option, Some, None, refl, sym, ◌∙◌, ap, subst, arith}
+use Rattle.std.specs.Bool.{◌==◌}
+use Rattle.std.proofs.Common.{◌≡◌, ◌≤◌, false, suc, length, List, [], ◌∷◌, ◌++◌, Option, Some, None, refl, sym, ◌∙◌, ap, subst, arith}
 use Rattle.vale_syntax.specs.declared.token.Token.{Token}
 use Rattle.vale_syntax.specs.Programs.{De}
 use Rattle.vale_syntax.specs.Declarations.{Declaration, AreDecls, no_decls, more_decls}
@@ -29,3 +30,14 @@ all ts xs ys (more_decls {rest = r} {x = x} d f) no_decls = absurd (nothing x r 
 all ts xs ys (more_decls {rest = r} {x = x} {xs = us} d f) (more_decls {rest = q} {x = y} {xs = vs} e g) =
     let p = one ts x y r q d e in
     ap (λ z. z ∷ us) p.0 ∙ ap (λ l. y ∷ l) (all q us vs (subst (λ l. AreDecls l us) p.1 f) g)
+
+pub no_length : (ts : List Token) → length ts ≡ 0 → ts ≡ []
+no_length [] e = refl
+no_length (x ∷ ts) e = absurd (omega (arith, e))
+
+pub none_here : (ts : List Token) → declaration ts ≡ None → (x : De) (rest : List Token) → Declaration ts x rest → ⊥
+none_here ts e x rest d = cc (sym e ∙ declaration_found ts x rest d)
+
+pub some_left : (ts : List Token) → (length ts == 0) ≡ false → ts ≡ [] → ⊥
+some_left [] e n = cc e
+some_left (x ∷ ts) e n = omega (arith, ap length n)

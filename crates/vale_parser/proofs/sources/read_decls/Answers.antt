@@ -1,0 +1,34 @@
+use Rattle.std.proofs.Common.{◌≡◌, ◌∷◌, ◌++◌, [], map, sym, ◌∙◌, ap, subst, arith, Some, None, List, length}
+use Rattle.std.proofs.lemmas.Bool.{eqb-true}
+use Rattle.vale_syntax.specs.declared.token.Token.{Token}
+use Rattle.vale_syntax.specs.Programs.{De, decl_tree}
+use Rattle.vale_syntax.specs.Declarations.{Declaration}
+use Rattle.vale_parser.specs.Sources.{Front, no_more, StopsAt}
+use Rattle.vale_parser.proofs.FoundDeclarations.{declaration_found, declaration_shorter}
+use Rattle.vale_parser.proofs.SoundDeclarations.{declaration_sound}
+use Rattle.vale_parser.proofs.Turns.{map_last}
+use Rattle.vale_parser.proofs.Whole.{front_last, front_all, no_length, none_here, some_left}
+use Rattle.vale_parser.proofs.sources.read_decls.Goals as goal
+
+pub loop-rest-init : goal.loop-rest-init
+loop-rest-init c = rw c.new-decls.ensures.items no_more
+
+pub loop-rest-smaller : goal.loop-rest-smaller
+loop-rest-smaller c = declaration_shorter _ _ _ (declaration_sound _ _ _ c.in-Ok.ensures)
+
+pub loop-rest-preserved : goal.loop-rest-preserved
+loop-rest-preserved c = rw (c.in_ok-push-in-Ok.ensures.items, map_last decl_tree c.loop-rest.decls.items c.in-Ok.next.part) (front_last c.loop-rest.invariant (declaration_sound _ _ _ c.in-Ok.ensures))
+
+pub returns-in-Err-NotAPart-clause-not_a_decl : goal.returns-in-Err-NotAPart-clause-not_a_decl
+returns-in-Err-NotAPart-clause-not_a_decl c = λ first e.
+    let gone = rw c.in-Err-NotAPart.field-0-is at c.in-Err-NotAPart.ensures in
+    record
+        { decls = map decl_tree c.loop-rest.decls.items
+        ; rest = c.loop-rest.rest.now
+        ; front = c.loop-rest.invariant
+        ; some = some_left c.loop-rest.rest.now (sym c.is_empty.ensures ∙ c.loop-rest-test.true)
+        ; here = sym c.spot_of.ensures ∙ cc e
+        ; none = none_here c.loop-rest.rest.now gone }
+
+pub returns-clause-ok : goal.returns-clause-ok
+returns-clause-ok c = front_all c.loop-rest.rest.now c.loop-rest.invariant (no_length _ (eqb-true _ _ (sym c.is_empty.ensures ∙ c.loop-rest-test.false)))
