@@ -1,5 +1,5 @@
 -- One turn of the statements in braces.
-use Rattle.std.proofs.Common.{◌≡◌, ◌≤◌, ◌-◌, ℕ, zero, suc, max, Bool, true, false, cond, List, [], ◌∷◌, ◌++◌, map, drop, Option, Some, None, refl, sym, ◌∙◌, ap, arith}
+use Rattle.std.proofs.Common.{◌≡◌, ◌≤◌, ◌-◌, ℕ, zero, suc, max, Bool, true, false, cond, List, [], ◌∷◌, ◌++◌, map, drop, Some, None, refl, ◌∙◌, ap, arith}
 use Rattle.vale_syntax.specs.declared.token.Token.{Token}
 use Rattle.vale_syntax.specs.declared.statement.Stmt.{Stmt}
 use Rattle.vale_syntax.specs.declared.statement.LemmaStmt.{LemmaStmt}
@@ -8,7 +8,7 @@ use Rattle.vale_syntax.specs.Peek.{peek}
 use Rattle.vale_syntax.specs.Programs.{Sts, more_sts, stmt_tree, sts, LSts, more_lsts, lstmt_tree, lsts}
 use Rattle.vale_syntax.specs.Statements.{sts_last, lsts_last}
 use Rattle.vale_parser.specs.Parts.{bind, is_mark}
-use Rattle.vale_parser.specs.Productions.{Stated, Bodied, bodied, Statements, statement_by, statement, body, LStated, LBodied, lbodied, LStatements, lstatement_by, lstatement, lbody}
+use Rattle.vale_parser.specs.Productions.{Stated, bodied, Statements, statement_by, statement, body, LStated, lbodied, LStatements, lstatement_by, lstatement, lbody}
 
 body_turn : (sub : Statements) (n m : ℕ) (xs : Sts) (d : ℕ) (ts : List Token) (b : Bool) → n ≡ suc m → b ≡ is_mark mark.BraceClose (peek ts)
     → body sub n xs d ts ≡ cond b (Some (bodied xs d (drop 1 ts))) (bind (sub ts) (λ s. body sub m (sts_last xs s.tree) (max d s.height) s.rest))

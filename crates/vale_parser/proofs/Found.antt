@@ -1,7 +1,5 @@
 -- What the productions without statements spell is found.
-use Rattle.std.proofs.Common.{◌≡◌, ℕ, zero, suc, ◌+◌, ◌<◌, ◌≤◌, Bool, true, false, cond, List, [], ◌∷◌, ◌++◌, length, drop, length-drop, Option, Some, None, ◌⊎◌, inl, inr, refl, sym, ◌∙◌, ap, subst, arith}
-use Rattle.std.specs.Prelude.{◌&&◌}
-use Rattle.x64_syntax.specs.declared.keywords.Keyword.{Keyword}
+use Rattle.std.proofs.Common.{◌≡◌, ℕ, zero, suc, ◌+◌, ◌<◌, ◌≤◌, Bool, true, false, cond, List, [], ◌∷◌, length, drop, Some, refl, sym, ◌∙◌, ap, subst, arith}
 use Rattle.x64_syntax.specs.declared.keywords.Keyword.TheVariants as word
 use Rattle.vale_syntax.specs.declared.token.Token.{Token}
 use Rattle.vale_syntax.specs.declared.spot.Spot.{Spot}
@@ -23,13 +21,13 @@ use Rattle.vale_syntax.specs.Operators.{any}
 use Rattle.vale_syntax.specs.Peek.{peek, spot_of}
 use Rattle.vale_syntax.specs.Trees.{Ex}
 use Rattle.vale_syntax.specs.Expressions.{name_of, depth_limit}
-use Rattle.vale_syntax.specs.Parse.{Got, got, ◌>>=◌ as ◌>=>◌, parse}
+use Rattle.vale_syntax.specs.Parse.{◌>>=◌ as ◌>=>◌}
 use Rattle.vale_syntax.specs.Statements.{Expression, sort_at}
-use Rattle.vale_syntax.specs.Declarations.{IsName, name as is_name_, IsBind, bind as is_bind, IsSecret, secret, open_, IsPlace, place as is_place, IsParam, operand, out, inline_, ghost_, block as is_block, kind_at, direction_by}
+use Rattle.vale_syntax.specs.Declarations.{IsName, name as is_name_, IsBind, bind as is_bind, secret, open_, IsPlace, place as is_place, IsParam, operand, out, inline_, ghost_, block as is_block, kind_at, direction_by}
 use Rattle.vale_syntax.proofs.Complete.{loose, found}
 use Rattle.vale_syntax.proofs.Grows.{spells_short}
 use Rattle.expr_parser.specs.Reads.{expression}
-use Rattle.vale_parser.specs.Parts.{bind as and_then, mark_eq, is_mark, expect, before}
+use Rattle.vale_parser.specs.Parts.{bind as and_then, mark_eq, expect, before}
 use Rattle.vale_parser.specs.Productions.{asked, is_name, is_secret, name, sort_behind, kind_behind, bind, place_at, place, operand_at, out_at, inline_sort, inline_at, ghost_at, block_at, guarded_by, guarded, param_by, parameter}
 use Rattle.vale_parser.proofs.Parts.{bound, expect_found}
 
@@ -67,7 +65,7 @@ expression_short ts x rest e = spells_short e.spelled
 pub before_found : (m : Mark) (ts : List Token) (x : Ex) (rest : List Token) → mark_eq m m ≡ true → Ends (see.Mark m) → Expression ts x rest → peek rest ≡ see.Mark m → before m (expression ts) ≡ Some (x, drop 1 rest)
 before_found m ts x rest eq ends e p =
     bound (expression ts) (x, rest) (λ p. and_then (expect m p.1) (λ rest. Some (p.0, rest))) _ (expression_found ts x rest e (subst Ends (sym p) ends))
-        (bound (expect m rest) (drop 1 rest) (λ l. Some (x, l)) _ (expect_found m rest eq p) refl)
+    (bound (expect m rest) (drop 1 rest) (λ l. Some (x, l)) _ (expect_found m rest eq p) refl)
 
 pub semicolon_found : (ts : List Token) (x : Ex) (rest : List Token) → Expression ts x rest → peek rest ≡ see.Mark mark.Semicolon → before mark.Semicolon (expression ts) ≡ Some (x, drop 1 rest)
 unfolding Ends loose
@@ -83,12 +81,12 @@ name_found ts p = ap (λ f. asked (is_name f) (Some (name_of ts, drop 1 ts))) p
 pub sort_behind_found : (ts : List Token) (s : SortName) → peek ts ≡ see.Mark mark.Colon → sort_at (drop 1 ts) ≡ Some s → sort_behind ts ≡ Some (s, drop 2 ts)
 sort_behind_found ts s p q =
     bound (expect mark.Colon ts) (drop 1 ts) (λ rest. and_then (sort_at rest) (λ s. Some (s, drop 1 rest))) _ (expect_found mark.Colon ts refl p)
-        (bound (sort_at (drop 1 ts)) s (λ s. Some (s, drop 1 (drop 1 ts))) _ q (ap (λ l. Some (s, l)) (dd 1 1 ts)))
+    (bound (sort_at (drop 1 ts)) s (λ s. Some (s, drop 1 (drop 1 ts))) _ q (ap (λ l. Some (s, l)) (dd 1 1 ts)))
 
 kind_behind_found : (ts : List Token) (k : Kind) → peek ts ≡ see.Mark mark.Colon → kind_at (drop 1 ts) ≡ Some k → kind_behind ts ≡ Some (k, drop 2 ts)
 kind_behind_found ts k p q =
     bound (expect mark.Colon ts) (drop 1 ts) (λ rest. and_then (kind_at rest) (λ k. Some (k, drop 1 rest))) _ (expect_found mark.Colon ts refl p)
-        (bound (kind_at (drop 1 ts)) k (λ k. Some (k, drop 1 (drop 1 ts))) _ q (ap (λ l. Some (k, l)) (dd 1 1 ts)))
+    (bound (kind_at (drop 1 ts)) k (λ k. Some (k, drop 1 (drop 1 ts))) _ q (ap (λ l. Some (k, l)) (dd 1 1 ts)))
 
 pub is_name_found : (ts : List Token) (n : Name) (rest : List Token) → IsName ts n rest → name ts ≡ Some (n, rest)
 is_name_found ts n rest (is_name_ p) = name_found ts p
@@ -97,8 +95,8 @@ pub bind_found : (ts : List Token) (b : Bind) (rest : List Token) → IsBind ts 
 unfolding bind
 bind_found ts b rest (is_bind {s = s} p q r) =
     bound (name ts) (name_of ts, drop 1 ts) (λ n. and_then (sort_behind n.1) (λ s. Some (record { name = n.0; sort = s.0 }, s.1))) _ (name_found ts p)
-        (bound (sort_behind (drop 1 ts)) (s, drop 2 (drop 1 ts)) (λ s. Some (record { name = name_of ts; sort = s.0 }, s.1)) _ (sort_behind_found (drop 1 ts) s q (ap sort_at (dd 1 1 ts) ∙ r))
-            (ap (λ l. Some (record { name = name_of ts; sort = s }, l)) (dd 1 2 ts)))
+    (bound (sort_behind (drop 1 ts)) (s, drop 2 (drop 1 ts)) (λ s. Some (record { name = name_of ts; sort = s.0 }, s.1)) _ (sort_behind_found (drop 1 ts) s q (ap sort_at (dd 1 1 ts) ∙ r))
+    (ap (λ l. Some (record { name = name_of ts; sort = s }, l)) (dd 1 2 ts)))
 
 place_at_found : (s : Spot) (b : Bool) (ts : List Token) → peek ts ≡ see.Name → place_at s b ts ≡ Some (record { spot = s; is_secret = b; name = name_of ts }, drop 1 ts)
 place_at_found s b ts p = bound (name ts) (name_of ts, drop 1 ts) (λ n. Some (record { spot = s; is_secret = b; name = n.0 }, n.1)) _ (name_found ts p) refl
@@ -114,26 +112,26 @@ place_found ts r rest (is_place {mid = mid} open_ p) =
 operand_found : (s : Spot) (b : Bool) (d : Direction) (k : Kind) (ts : List Token) → peek ts ≡ see.Name → peek (drop 1 ts) ≡ see.Mark mark.Colon → kind_at (drop 2 ts) ≡ Some k → operand_at s b d ts ≡ Some (param.Operand s b d (name_of ts) k, drop 3 ts)
 operand_found s b d k ts p q r =
     bound (name ts) (name_of ts, drop 1 ts) (λ n. and_then (kind_behind n.1) (λ k. Some (param.Operand s b d n.0 k.0, k.1))) _ (name_found ts p)
-        (bound (kind_behind (drop 1 ts)) (k, drop 2 (drop 1 ts)) (λ k. Some (param.Operand s b d (name_of ts) k.0, k.1)) _ (kind_behind_found (drop 1 ts) k q (ap kind_at (dd 1 1 ts) ∙ r))
-            (ap (λ l. Some (param.Operand s b d (name_of ts) k, l)) (dd 1 2 ts)))
+    (bound (kind_behind (drop 1 ts)) (k, drop 2 (drop 1 ts)) (λ k. Some (param.Operand s b d (name_of ts) k.0, k.1)) _ (kind_behind_found (drop 1 ts) k q (ap kind_at (dd 1 1 ts) ∙ r))
+    (ap (λ l. Some (param.Operand s b d (name_of ts) k, l)) (dd 1 2 ts)))
 
 out_found : (s : Spot) (k : Kind) (ts : List Token) → peek ts ≡ see.Name → peek (drop 1 ts) ≡ see.Mark mark.Colon → kind_at (drop 2 ts) ≡ Some k → out_at s ts ≡ Some (param.Out s (name_of ts) k, drop 3 ts)
 out_found s k ts p q r =
     bound (name ts) (name_of ts, drop 1 ts) (λ n. and_then (kind_behind n.1) (λ k. Some (param.Out s n.0 k.0, k.1))) _ (name_found ts p)
-        (bound (kind_behind (drop 1 ts)) (k, drop 2 (drop 1 ts)) (λ k. Some (param.Out s (name_of ts) k.0, k.1)) _ (kind_behind_found (drop 1 ts) k q (ap kind_at (dd 1 1 ts) ∙ r))
-            (ap (λ l. Some (param.Out s (name_of ts) k, l)) (dd 1 2 ts)))
+    (bound (kind_behind (drop 1 ts)) (k, drop 2 (drop 1 ts)) (λ k. Some (param.Out s (name_of ts) k.0, k.1)) _ (kind_behind_found (drop 1 ts) k q (ap kind_at (dd 1 1 ts) ∙ r))
+    (ap (λ l. Some (param.Out s (name_of ts) k, l)) (dd 1 2 ts)))
 
 inline_found : (s t : Spot) (ts : List Token) → peek ts ≡ see.Name → peek (drop 1 ts) ≡ see.Mark mark.Colon → sort_at (drop 2 ts) ≡ Some (sort.Int t) → inline_at s ts ≡ Some (param.Inline s (name_of ts), drop 3 ts)
 inline_found s t ts p q r =
     bound (name ts) (name_of ts, drop 1 ts) (λ n. and_then (sort_behind n.1) (inline_sort s n.0)) _ (name_found ts p)
-        (bound (sort_behind (drop 1 ts)) (sort.Int t, drop 2 (drop 1 ts)) (inline_sort s (name_of ts)) _ (sort_behind_found (drop 1 ts) (sort.Int t) q (ap sort_at (dd 1 1 ts) ∙ r))
-            (ap (λ l. Some (param.Inline s (name_of ts), l)) (dd 1 2 ts)))
+    (bound (sort_behind (drop 1 ts)) (sort.Int t, drop 2 (drop 1 ts)) (inline_sort s (name_of ts)) _ (sort_behind_found (drop 1 ts) (sort.Int t) q (ap sort_at (dd 1 1 ts) ∙ r))
+    (ap (λ l. Some (param.Inline s (name_of ts), l)) (dd 1 2 ts)))
 
 ghost_found : (s : Spot) (t : SortName) (ts : List Token) → peek ts ≡ see.Name → peek (drop 1 ts) ≡ see.Mark mark.Colon → sort_at (drop 2 ts) ≡ Some t → ghost_at s ts ≡ Some (param.Ghost s (name_of ts) t, drop 3 ts)
 ghost_found s t ts p q r =
     bound (name ts) (name_of ts, drop 1 ts) (λ n. and_then (sort_behind n.1) (λ t. Some (param.Ghost s n.0 t.0, t.1))) _ (name_found ts p)
-        (bound (sort_behind (drop 1 ts)) (t, drop 2 (drop 1 ts)) (λ t. Some (param.Ghost s (name_of ts) t.0, t.1)) _ (sort_behind_found (drop 1 ts) t q (ap sort_at (dd 1 1 ts) ∙ r))
-            (ap (λ l. Some (param.Ghost s (name_of ts) t, l)) (dd 1 2 ts)))
+    (bound (sort_behind (drop 1 ts)) (t, drop 2 (drop 1 ts)) (λ t. Some (param.Ghost s (name_of ts) t.0, t.1)) _ (sort_behind_found (drop 1 ts) t q (ap sort_at (dd 1 1 ts) ∙ r))
+    (ap (λ l. Some (param.Ghost s (name_of ts) t, l)) (dd 1 2 ts)))
 
 -- behind `secret` or nothing
 guarded_operand : (s : Spot) (b : Bool) (d : Direction) (k : Kind) (f : Lookahead) (ts : List Token) → direction_by f ≡ Some d → peek ts ≡ see.Name → peek (drop 1 ts) ≡ see.Mark mark.Colon → kind_at (drop 2 ts) ≡ Some k

@@ -1,16 +1,16 @@
 -- Arguments that are spelled are found.
-use Rattle.std.proofs.Common.{◌≡◌, ℕ, zero, suc, ◌+◌, ◌<◌, ◌≤◌, max, Bool, true, false, cond, not, List, [], ◌∷◌, length, drop, length-drop, Option, Some, None, refl, sym, ◌∙◌, ap, subst, arith}
+use Rattle.std.proofs.Common.{◌≡◌, ℕ, suc, ◌<◌, ◌≤◌, Bool, true, false, cond, List, length, drop, length-drop, Some, refl, sym, ◌∙◌, ap, subst, arith}
 use Rattle.std.specs.Prelude.{◌&&◌}
-use Rattle.std.proofs.lemmas.Bool.{and_parts, and_from, false≢true}
+use Rattle.std.proofs.lemmas.Bool.{and_parts, false≢true}
 use Rattle.vale_syntax.specs.declared.token.Token.{Token}
 use Rattle.vale_syntax.specs.declared.mark.Mark.TheVariants as mark
 use Rattle.vale_syntax.specs.declared.lookahead.Lookahead.{Lookahead}
 use Rattle.vale_syntax.specs.declared.lookahead.Lookahead.TheVariants as see
 use Rattle.vale_syntax.specs.declared.spot.Spot.{Spot}
 use Rattle.vale_syntax.specs.Operators.{any}
-use Rattle.vale_syntax.specs.Peek.{peek, spot_of}
+use Rattle.vale_syntax.specs.Peek.{peek}
 use Rattle.vale_syntax.specs.Trees.{Ex}
-use Rattle.vale_syntax.specs.Expressions.{name_of, depth_limit, leaf_by, leaf, Spells, not_, negative, minus, postfix, operations, Chain, chain_end, operation, Indexed, index_end, index, Atom, token, call, brackets}
+use Rattle.vale_syntax.specs.Expressions.{name_of, leaf_by, leaf, Spells, not_, negative, minus, postfix, operations, Chain, chain_end, operation, Indexed, index_end, index, token, call, brackets}
 use Rattle.vale_syntax.specs.Programs.{Ar, Memory, Value}
 use Rattle.vale_syntax.specs.Statements.{Expression, Argument, memory, value}
 use Rattle.vale_syntax.proofs.Complete.{loose}
@@ -18,7 +18,7 @@ use Rattle.vale_syntax.proofs.Grows.{chain_grows, indexed_grows}
 use Rattle.expr_parser.specs.Reads.{expression}
 use Rattle.vale_parser.specs.Parts.{bind as and_then, is_mark, expect, before, separated}
 use Rattle.vale_parser.specs.Productions.{is_name, memory_at, value_at, argument_by, argument}
-use Rattle.vale_parser.proofs.Parts.{bound, peek_is, is_mark_of, expect_found, separated_found, separated_short}
+use Rattle.vale_parser.proofs.Parts.{bound, peek_is, expect_found, separated_found, separated_short}
 use Rattle.vale_parser.proofs.Found.{dd, Ends, expression_found, expression_short}
 
 leaf_starts : (f : Lookahead) (ts : List Token) (x : Ex) → leaf_by f ts ≡ Some x → is_mark mark.RoundClose f ≡ false
@@ -109,12 +109,12 @@ argument_found ts a rest (memory {mid = mid} {rest = r} {i = i} {a = xs} p q h s
     ∙ ap (λ b. cond (b && is_mark mark.At (peek (drop 1 mid))) (memory_at (name_of ts) i (drop 2 mid)) (value_at ts)) (ap (is_mark mark.SquareClose) s)
     ∙ ap (λ b. cond b (memory_at (name_of ts) i (drop 2 mid)) (value_at ts)) (ap (is_mark mark.At) t)
     ∙ bound (expect mark.RoundOpen (drop 2 mid)) (drop 1 (drop 2 mid)) (λ l. and_then (before mark.RoundClose (separated expression l)) (λ a. Some (Memory (name_of ts) i a.0, a.1))) _ (expect_found mark.RoundOpen (drop 2 mid) refl u)
-        (ap (λ l. and_then (before mark.RoundClose (separated expression l)) (λ a. Some (Memory (name_of ts) i a.0, a.1))) (dd 2 1 mid)
-        ∙ bound (before mark.RoundClose (separated expression (drop 3 mid))) (xs, drop 1 r) (λ a. Some (Memory (name_of ts) i a.0, a.1)) _
-            (bound (separated expression (drop 3 mid)) (xs, r) (λ p. and_then (expect mark.RoundClose p.1) (λ l. Some (p.0, l))) _
-                (separated_found Expression expression Ends expression_found expression_short (omega arith) (drop 3 mid) xs r v (ap (is_mark mark.Comma) w) (subst (λ f. suc any < loose f) (sym w) (omega arith)))
-                (bound (expect mark.RoundClose r) (drop 1 r) (λ l. Some (xs, l)) _ (expect_found mark.RoundClose r refl w) refl))
-            refl)
+    (ap (λ l. and_then (before mark.RoundClose (separated expression l)) (λ a. Some (Memory (name_of ts) i a.0, a.1))) (dd 2 1 mid)
+    ∙ bound (before mark.RoundClose (separated expression (drop 3 mid))) (xs, drop 1 r) (λ a. Some (Memory (name_of ts) i a.0, a.1)) _
+    (bound (separated expression (drop 3 mid)) (xs, r) (λ p. and_then (expect mark.RoundClose p.1) (λ l. Some (p.0, l))) _
+    (separated_found Expression expression Ends expression_found expression_short (omega arith) (drop 3 mid) xs r v (ap (is_mark mark.Comma) w) (subst (λ f. suc any < loose f) (sym w) (omega arith)))
+    (bound (expect mark.RoundClose r) (drop 1 r) (λ l. Some (xs, l)) _ (expect_found mark.RoundClose r refl w) refl))
+    refl)
 argument_found ts a rest (value {x = x} e) f = by_test (is_name (peek ts) && is_mark mark.SquareOpen (peek (drop 1 ts))) refl
   where
     by_index : is_name (peek ts) ≡ true → is_mark mark.SquareOpen (peek (drop 1 ts)) ≡ true → argument_by (expression (drop 2 ts)) ts ≡ Some (Value x, rest)

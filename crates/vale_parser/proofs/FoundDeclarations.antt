@@ -1,15 +1,13 @@
 -- Clauses and declarations that are spelled are found.
-use Rattle.std.proofs.Common.{◌≡◌, ℕ, zero, suc, ◌+◌, ◌<◌, ◌≤◌, max, Bool, true, false, cond, List, [], ◌∷◌, length, drop, length-drop, Option, Some, None, refl, sym, ◌∙◌, ap, subst, arith}
+use Rattle.std.proofs.Common.{◌≡◌, ℕ, suc, ◌≤◌, Bool, true, false, List, [], length, drop, length-drop, Some, None, refl, sym, ◌∙◌, ap, subst, arith}
 use Rattle.x64_syntax.specs.declared.keywords.Keyword.{Keyword}
 use Rattle.x64_syntax.specs.declared.keywords.Keyword.TheVariants as word
 use Rattle.vale_syntax.specs.declared.token.Token.{Token}
-use Rattle.vale_syntax.specs.declared.spot.Spot.{Spot}
 use Rattle.vale_syntax.specs.declared.mark.Mark.TheVariants as mark
 use Rattle.vale_syntax.specs.declared.lookahead.Lookahead.{Lookahead}
 use Rattle.vale_syntax.specs.declared.lookahead.Lookahead.TheVariants as see
 use Rattle.vale_syntax.specs.declared.expr.Name.{Name}
 use Rattle.vale_syntax.specs.declared.statement.SortName.{SortName}
-use Rattle.vale_syntax.specs.declared.declaration.AbiName.{AbiName}
 use Rattle.vale_syntax.specs.declared.declaration.Bind.{Bind}
 use Rattle.vale_syntax.specs.declared.declaration.Param.{Param}
 use Rattle.vale_syntax.specs.declared.declaration.ReadPlace.{ReadPlace}
@@ -22,10 +20,10 @@ use Rattle.vale_syntax.specs.Statements.{Expression, sort_at, Block, block as st
 use Rattle.vale_syntax.specs.Declarations.{IsName, name as is_name_, IsBind, bind as is_bind, IsSecret, secret, open_, IsPlace, place as is_place, IsParam, operand, out, inline_, ghost_, block as is_block, direction_by, abi_at, IsClause, reads, modifies, requires_, ensures_, stack, abi_, IsLClause, lrequires, lensures, ldecreases, Head, Declaration, procedure_ as is_procedure, lemma_ as is_lemma, function_ as is_function, recursive, export_ as is_export}
 use Rattle.expr_parser.specs.Reads.{expression}
 use Rattle.vale_parser.specs.Parts.{bind as and_then, is_mark, expect, before, separated, closed, many}
-use Rattle.vale_parser.specs.Productions.{asked, is_zero, is_step, name, sort_behind, bind, place, parameter, expression_end, abi_clause, reads_clause, modifies_clause, clause_by, clause, begins_clause, lclause_by, lclause, begins_lclause, head, block, statement, lblock, lstatement, bodied, lbodied, procedure_, lemma_, Header, header, plain_at, parts_at, result_by, result_at, function_, export_, declaration_by, declaration}
-use Rattle.vale_parser.proofs.Parts.{bound, expect_found, mark_left, word_left, name_left, separated_found, separated_short, closed_found, closed_short, many_found, many_short}
-use Rattle.vale_parser.proofs.Found.{dd, Ends, expression_found, expression_short, semicolon_found, name_found, is_name_found, sort_behind_found, bind_found, place_found, parameter_found}
-use Rattle.vale_parser.proofs.FoundStatements.{name_at, sort_behind_at, expect_at, before_of, block_of, block_short}
+use Rattle.vale_parser.specs.Productions.{asked, is_zero, is_step, name, sort_behind, bind, place, parameter, expression_end, clause_by, clause, begins_clause, lclause_by, lclause, begins_lclause, head, block, statement, lblock, lstatement, bodied, lbodied, Header, header, result_by, result_at, declaration_by, declaration}
+use Rattle.vale_parser.proofs.Parts.{bound, word_left, separated_found, separated_short, closed_found, closed_short, many_found, many_short}
+use Rattle.vale_parser.proofs.Found.{dd, Ends, expression_found, expression_short, semicolon_found, is_name_found, sort_behind_found, bind_found, place_found, parameter_found}
+use Rattle.vale_parser.proofs.FoundStatements.{name_at, expect_at, before_of, block_of, block_short}
 use Rattle.vale_parser.proofs.FoundLemmas.{expressions_found, block_of as lblock_of, block_short as lblock_short}
 
 -- nothing has to follow a name, a place or a parameter
@@ -105,7 +103,7 @@ clause_found ts c rest (stack {mid = mid} {x = x} p e s) = ap (λ f. clause_by f
 clause_found ts c rest (abi_ {a = a} p q s) =
     ap (λ f. clause_by f ts) p
     ∙ bound (abi_at (drop 1 ts)) a (λ a. and_then (expect mark.Semicolon (drop 1 (drop 1 ts))) (λ rest. Some (Abi (spot_of ts) a, rest))) _ q
-        (ap (λ l. and_then (expect mark.Semicolon l) (λ rest. Some (Abi (spot_of ts) a, rest))) (dd 1 1 ts) ∙ bound (expect mark.Semicolon (drop 2 ts)) (drop 3 ts) (λ rest. Some (Abi (spot_of ts) a, rest)) _ (expect_at mark.Semicolon 2 ts refl s) refl)
+    (ap (λ l. and_then (expect mark.Semicolon l) (λ rest. Some (Abi (spot_of ts) a, rest))) (dd 1 1 ts) ∙ bound (expect mark.Semicolon (drop 2 ts)) (drop 3 ts) (λ rest. Some (Abi (spot_of ts) a, rest)) _ (expect_at mark.Semicolon 2 ts refl s) refl)
 
 clause_begins : (ts : List Token) (c : Cl) (rest : List Token) → IsClause ts c rest → begins_clause (peek ts) ≡ true
 clause_begins ts c rest (reads p h s) = ap begins_clause p
@@ -172,10 +170,10 @@ parts_found : (h : Header) (ts : List Token) (x y : Ex) (b c : List Token) → p
 parts_found h ts x y b c p q e s t g u v =
     ap (λ f. result_by h f ts) p
     ∙ bound (asked (is_zero (peek (drop 1 ts))) (expression_end (drop 1 ts))) (x, drop 1 b) (λ x. and_then (asked (is_step (peek x.1)) (expression_end x.1)) (λ y.
-        and_then (expect mark.BraceClose y.1) (λ rest. Some (Function h.spot h.name h.binds h.sort (Some x.0) y.0, rest)))) _
-        (word_found is_zero (drop 1 ts) x b (ap is_zero q) (subst (λ l. Expression l x b) (sym (dd 1 1 ts)) e) s)
+    and_then (expect mark.BraceClose y.1) (λ rest. Some (Function h.spot h.name h.binds h.sort (Some x.0) y.0, rest)))) _
+    (word_found is_zero (drop 1 ts) x b (ap is_zero q) (subst (λ l. Expression l x b) (sym (dd 1 1 ts)) e) s)
     (bound (asked (is_step (peek (drop 1 b))) (expression_end (drop 1 b))) (y, drop 1 c) (λ y. and_then (expect mark.BraceClose y.1) (λ rest. Some (Function h.spot h.name h.binds h.sort (Some x) y.0, rest))) _
-        (word_found is_step (drop 1 b) y c (ap is_step t) (subst (λ l. Expression l y c) (sym (dd 1 1 b)) g) u)
+    (word_found is_step (drop 1 b) y c (ap is_step t) (subst (λ l. Expression l y c) (sym (dd 1 1 b)) g) u)
     (bound (expect mark.BraceClose (drop 1 c)) (drop 2 c) (λ rest. Some (Function h.spot h.name h.binds h.sort (Some x) y, rest)) _ (expect_at mark.BraceClose 1 c refl v) refl))
 
 function_found : (ts a : List Token) (bs : List Bind) (s : SortName) (x : De) (rest : List Token) → Head (see.Keyword word.Function) ts → Closed IsBind (drop 3 ts) bs a → peek a ≡ see.Mark mark.Colon → sort_at (drop 1 a) ≡ Some s
@@ -192,33 +190,33 @@ unfolding declaration
 declaration_found ts x rest (is_procedure {d = d} {a = a} {b = b} {ps = ps} {cs = cs} {body = body} h c m blk k) =
     ap (λ f. declaration_by f ts) h.keyword
     ∙ bound (head ts) (name_of (drop 1 ts), drop 3 ts) (λ n. and_then (closed parameter n.1) (λ ps. and_then (many begins_clause clause (length ps.1) [] ps.1) (λ cs.
-        and_then (block (statement statement_limit) cs.1) (λ b. Some (Procedure (spot_of ts) n.0 ps.0 cs.0 b.trees, b.rest))))) _ (head_found (see.Keyword word.Procedure) ts h)
+    and_then (block (statement statement_limit) cs.1) (λ b. Some (Procedure (spot_of ts) n.0 ps.0 cs.0 b.trees, b.rest))))) _ (head_found (see.Keyword word.Procedure) ts h)
     (bound (closed parameter (drop 3 ts)) (ps, a) (λ ps. and_then (many begins_clause clause (length ps.1) [] ps.1) (λ cs.
-        and_then (block (statement statement_limit) cs.1) (λ b. Some (Procedure (spot_of ts) (name_of (drop 1 ts)) ps.0 cs.0 b.trees, b.rest)))) _ (parameters_found (drop 3 ts) ps a c)
+    and_then (block (statement statement_limit) cs.1) (λ b. Some (Procedure (spot_of ts) (name_of (drop 1 ts)) ps.0 cs.0 b.trees, b.rest)))) _ (parameters_found (drop 3 ts) ps a c)
     (bound (many begins_clause clause (length a) [] a) (cs, b) (λ cs. and_then (block (statement statement_limit) cs.1) (λ b. Some (Procedure (spot_of ts) (name_of (drop 1 ts)) ps cs.0 b.trees, b.rest))) _ (clauses_found a cs b m (block_opens blk))
     (bound (block (statement statement_limit) b) (bodied body d rest) (λ b. Some (Procedure (spot_of ts) (name_of (drop 1 ts)) ps cs b.trees, b.rest)) _ (block_of blk statement_limit k) refl)))
 declaration_found ts x rest (is_lemma {d = d} {a = a} {b = b} {bs = bs} {cs = cs} {body = body} h c m blk k) =
     ap (λ f. declaration_by f ts) h.keyword
     ∙ bound (head ts) (name_of (drop 1 ts), drop 3 ts) (λ n. and_then (closed bind n.1) (λ bs. and_then (many begins_lclause lclause (length bs.1) [] bs.1) (λ cs.
-        and_then (lblock (lstatement statement_limit) cs.1) (λ b. Some (Lemma (spot_of ts) n.0 bs.0 cs.0 b.trees, b.rest))))) _ (head_found (see.Keyword word.Lemma) ts h)
+    and_then (lblock (lstatement statement_limit) cs.1) (λ b. Some (Lemma (spot_of ts) n.0 bs.0 cs.0 b.trees, b.rest))))) _ (head_found (see.Keyword word.Lemma) ts h)
     (bound (closed bind (drop 3 ts)) (bs, a) (λ bs. and_then (many begins_lclause lclause (length bs.1) [] bs.1) (λ cs.
-        and_then (lblock (lstatement statement_limit) cs.1) (λ b. Some (Lemma (spot_of ts) (name_of (drop 1 ts)) bs.0 cs.0 b.trees, b.rest)))) _ (binds_found (drop 3 ts) bs a c)
+    and_then (lblock (lstatement statement_limit) cs.1) (λ b. Some (Lemma (spot_of ts) (name_of (drop 1 ts)) bs.0 cs.0 b.trees, b.rest)))) _ (binds_found (drop 3 ts) bs a c)
     (bound (many begins_lclause lclause (length a) [] a) (cs, b) (λ cs. and_then (lblock (lstatement statement_limit) cs.1) (λ b. Some (Lemma (spot_of ts) (name_of (drop 1 ts)) bs cs.0 b.trees, b.rest))) _ (lclauses_found a cs b m (lblock_opens blk))
     (bound (lblock (lstatement statement_limit) b) (lbodied body d rest) (λ b. Some (Lemma (spot_of ts) (name_of (drop 1 ts)) bs cs b.trees, b.rest)) _ (lblock_of blk statement_limit k) refl)))
 declaration_found ts x rest (is_function {a = a} {b = b} {bs = bs} {s = s} {x = y} h c p q r e u) =
     function_found ts a bs s _ _ h c p q (plain_found (header (spot_of ts) (name_of (drop 1 ts)) bs s) (drop 2 a) y b r (subst (λ l. Expression l y b) (sym (dd 2 1 a)) e) u)
 declaration_found ts x rest (recursive {a = a} {b = b} {c = c} {bs = bs} {s = s} {x = y} {y = z} h l p q r t e u v g w i) =
     function_found ts a bs s _ _ h l p q
-        (parts_found (header (spot_of ts) (name_of (drop 1 ts)) bs s) (drop 2 a) y z b c r (ap peek (dd 2 1 a) ∙ t) (subst (λ l. Expression l y b) (sym (dd 2 2 a)) e) u v g w i)
+    (parts_found (header (spot_of ts) (name_of (drop 1 ts)) bs s) (drop 2 a) y z b c r (ap peek (dd 2 1 a) ∙ t) (subst (λ l. Expression l y b) (sym (dd 2 2 a)) e) u v g w i)
 declaration_found ts x rest (is_export {a = a} {xs = xs} p q r s t c u) =
     ap (λ f. declaration_by f ts) p
     ∙ bound (before mark.Equals (name (drop 1 ts))) (name_of (drop 1 ts), drop 3 ts) (λ n. and_then (before mark.RoundOpen (name n.1)) (λ p.
-        and_then (before mark.Semicolon (closed expression p.1)) (λ xs. Some (Export (spot_of ts) n.0 p.0 xs.0, xs.1)))) _
-        (before_of mark.Equals (name (drop 1 ts)) (name_of (drop 1 ts)) (drop 2 ts) (name_at 1 ts q) refl r ∙ ap (λ l. Some (name_of (drop 1 ts), l)) (dd 2 1 ts))
+    and_then (before mark.Semicolon (closed expression p.1)) (λ xs. Some (Export (spot_of ts) n.0 p.0 xs.0, xs.1)))) _
+    (before_of mark.Equals (name (drop 1 ts)) (name_of (drop 1 ts)) (drop 2 ts) (name_at 1 ts q) refl r ∙ ap (λ l. Some (name_of (drop 1 ts), l)) (dd 2 1 ts))
     (bound (before mark.RoundOpen (name (drop 3 ts))) (name_of (drop 3 ts), drop 5 ts) (λ p. and_then (before mark.Semicolon (closed expression p.1)) (λ xs. Some (Export (spot_of ts) (name_of (drop 1 ts)) p.0 xs.0, xs.1))) _
-        (before_of mark.RoundOpen (name (drop 3 ts)) (name_of (drop 3 ts)) (drop 4 ts) (name_at 3 ts s) refl t ∙ ap (λ l. Some (name_of (drop 3 ts), l)) (dd 4 1 ts))
+    (before_of mark.RoundOpen (name (drop 3 ts)) (name_of (drop 3 ts)) (drop 4 ts) (name_at 3 ts s) refl t ∙ ap (λ l. Some (name_of (drop 3 ts), l)) (dd 4 1 ts))
     (bound (before mark.Semicolon (closed expression (drop 5 ts))) (xs, drop 1 a) (λ xs. Some (Export (spot_of ts) (name_of (drop 1 ts)) (name_of (drop 3 ts)) xs.0, xs.1)) _
-        (before_of mark.Semicolon (closed expression (drop 5 ts)) xs a (expressions_found (drop 5 ts) xs a c) refl u) refl))
+    (before_of mark.Semicolon (closed expression (drop 5 ts)) xs a (expressions_found (drop 5 ts) xs a c) refl u) refl))
 
 -- a declaration takes tokens
 head_left : (k : Keyword) (ts : List Token) → Head (see.Keyword k) ts → 1 ≤ length ts

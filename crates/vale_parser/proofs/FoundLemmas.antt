@@ -1,21 +1,20 @@
 -- Statements of lemmas that are spelled are found.
-use Rattle.std.proofs.Common.{◌≡◌, ℕ, zero, suc, ◌+◌, ◌<◌, ◌≤◌, max, Bool, true, false, cond, List, [], ◌∷◌, length, drop, length-drop, Option, Some, None, refl, sym, ◌∙◌, ap, subst, arith}
+use Rattle.std.proofs.Common.{◌≡◌, ℕ, zero, suc, ◌≤◌, max, false, cond, List, length, drop, length-drop, Some, refl, ◌∙◌, ap, arith}
 use Rattle.x64_syntax.specs.declared.keywords.Keyword.TheVariants as word
 use Rattle.vale_syntax.specs.declared.token.Token.{Token}
 use Rattle.vale_syntax.specs.declared.mark.Mark.TheVariants as mark
-use Rattle.vale_syntax.specs.declared.lookahead.Lookahead.{Lookahead}
 use Rattle.vale_syntax.specs.declared.lookahead.Lookahead.TheVariants as see
 use Rattle.vale_syntax.specs.Peek.{peek, spot_of}
 use Rattle.vale_syntax.specs.Trees.{Ex}
 use Rattle.vale_syntax.specs.Expressions.{name_of}
 use Rattle.vale_syntax.specs.Lists.{Closed}
 use Rattle.vale_syntax.specs.Programs.{LSt, LSts, no_lsts, LArm, no_larm, larm, LCall, LAssert, LIf}
-use Rattle.vale_syntax.specs.Statements.{Expression, lsts_last, Test, LStatement, lcall as is_lcall, lassert, lif, LBlock, lblock as is_lblock, LBody, lended, lfurther, LElse, labsent, lpresent}
+use Rattle.vale_syntax.specs.Statements.{Expression, lsts_last, LStatement, lcall as is_lcall, lassert, lif, LBlock, lblock as is_lblock, LBody, lended, lfurther, LElse, labsent, lpresent}
 use Rattle.expr_parser.specs.Reads.{expression}
 use Rattle.vale_parser.specs.Parts.{bind as and_then, is_mark, expect, before, closed}
-use Rattle.vale_parser.specs.Productions.{is_else, expression_end, test, lcall, LStated, LStatements, lstated, lbodied, larmed, lbranches, lbody, lblock, lelse_by, larms, lif_at, lstatement_by, lstatement}
+use Rattle.vale_parser.specs.Productions.{is_else, expression_end, test, LStated, LStatements, lstated, lbodied, larmed, lbranches, lbody, lblock, lelse_by, larms, lstatement_by, lstatement}
 use Rattle.vale_parser.proofs.Parts.{bound, expect_found, mark_left, word_left, closed_found, closed_short}
-use Rattle.vale_parser.proofs.Found.{dd, Ends, expression_found, expression_short, semicolon_found}
+use Rattle.vale_parser.proofs.Found.{Ends, expression_found, expression_short, semicolon_found}
 use Rattle.vale_parser.proofs.FoundArguments.{expression_starts}
 use Rattle.vale_parser.proofs.FoundStatements.{expect_at, before_of, test_found, test_short, ends_comma, ends_close}
 
@@ -77,21 +76,21 @@ body_end sub n xs d ts p = rw p refl
 arms_of : {d e : ℕ} (a c : List Token) {xs : LSts} {y : LArm} {rest : List Token} (b : ℕ) → lblock (lstatement b) a ≡ Some (lbodied xs d c) → lelse_by (lstatement b) c ≡ Some (larmed y e rest) → larms (lstatement b) a ≡ Some (lbranches xs y (suc (max d e)) rest)
 arms_of {d = d} {e = e} a c {xs = xs} {y = y} {rest = rest} b first second =
     bound (lblock (lstatement b) a) (lbodied xs d c) (λ b'. and_then (lelse_by (lstatement b) b'.rest) (λ e. Some (lbranches b'.trees e.arm (suc (max b'.height e.height)) e.rest))) _ first
-        (bound (lelse_by (lstatement b) c) (larmed y e rest) (λ e. Some (lbranches xs e.arm (suc (max d e.height)) e.rest)) _ second refl)
+    (bound (lelse_by (lstatement b) c) (larmed y e rest) (λ e. Some (lbranches xs e.arm (suc (max d e.height)) e.rest)) _ second refl)
 
 mutual
   statement_of : {d : ℕ} {ts : List Token} {x : LSt} {rest : List Token} → LStatement d ts x rest → (b : ℕ) → d ≤ suc b → is_else (peek rest) ≡ false → lstatement_by (lstatement b) (peek ts) ts ≡ Some (lstated x d rest)
   statement_of (is_lcall {ts = ts} {mid = mid} {a = a} p q c s) b k l =
       ap (λ f. lstatement_by (lstatement b) f ts) p
       ∙ bound (expect mark.RoundOpen (drop 1 ts)) (drop 2 ts) (λ rest. and_then (before mark.Semicolon (closed expression rest)) (λ a. Some (lstated (LCall (name_of ts) a.0) 1 a.1))) _ (expect_at mark.RoundOpen 1 ts refl q)
-          (bound (before mark.Semicolon (closed expression (drop 2 ts))) (a, drop 1 mid) (λ a. Some (lstated (LCall (name_of ts) a.0) 1 a.1)) _ (before_of mark.Semicolon (closed expression (drop 2 ts)) a mid (expressions_found (drop 2 ts) a mid c) refl s) refl)
+      (bound (before mark.Semicolon (closed expression (drop 2 ts))) (a, drop 1 mid) (λ a. Some (lstated (LCall (name_of ts) a.0) 1 a.1)) _ (before_of mark.Semicolon (closed expression (drop 2 ts)) a mid (expressions_found (drop 2 ts) a mid c) refl s) refl)
   statement_of (lassert {ts = ts} {mid = mid} {x = x} p e s) b k l =
       ap (λ f. lstatement_by (lstatement b) f ts) p ∙ bound (expression_end ts) (x, drop 1 mid) (λ x. Some (lstated (LAssert (spot_of ts) x.0) 1 x.1)) _ (semicolon_found (drop 1 ts) x mid e s) refl
   statement_of (lif {d = d} {e = e} {ts = ts} {a = a} {rest = rest} {t = t} {xs = xs} {y = y} p tested first second) b k l =
       ap (λ f. lstatement_by (lstatement b) f ts) p
       ∙ bound (test (drop 1 ts)) (t, a) (λ t. and_then (larms (lstatement b) t.1) (λ a. Some (lstated (LIf (spot_of ts) t.0 a.first a.second) a.height a.rest))) _ (test_found (drop 1 ts) t a tested)
-          (bound (larms (lstatement b) a) (lbranches xs y (suc (max d e)) rest) (λ a. Some (lstated (LIf (spot_of ts) t a.first a.second) a.height a.rest)) _
-              (arms_of a _ b (block_of first b (omega (arith, k))) (else_of second b (omega (arith, k)) l)) refl)
+      (bound (larms (lstatement b) a) (lbranches xs y (suc (max d e)) rest) (λ a. Some (lstated (LIf (spot_of ts) t a.first a.second) a.height a.rest)) _
+      (arms_of a _ b (block_of first b (omega (arith, k))) (else_of second b (omega (arith, k)) l)) refl)
 
   pub block_of : {d : ℕ} {ts : List Token} {xs : LSts} {rest : List Token} → LBlock d ts xs rest → (b : ℕ) → d ≤ b → lblock (lstatement b) ts ≡ Some (lbodied xs d rest)
   block_of (is_lblock {d = d} {ts = ts} {mid = mid} {xs = xs} p inner q) b k =

@@ -1,28 +1,23 @@
 -- Statements that are spelled are found.
-use Rattle.std.proofs.Common.{◌≡◌, ℕ, zero, suc, ◌+◌, ◌<◌, ◌≤◌, max, Bool, true, false, cond, List, [], ◌∷◌, ◌++◌, length, drop, length-drop, Option, Some, None, refl, sym, ◌∙◌, ap, subst, arith}
-use Rattle.x64_syntax.specs.declared.keywords.Keyword.{Keyword}
+use Rattle.std.proofs.Common.{◌≡◌, ℕ, zero, suc, ◌+◌, ◌≤◌, max, true, false, cond, List, [], length, drop, length-drop, Option, Some, refl, ◌∙◌, ap, arith}
 use Rattle.x64_syntax.specs.declared.keywords.Keyword.TheVariants as word
 use Rattle.vale_syntax.specs.declared.token.Token.{Token}
-use Rattle.vale_syntax.specs.declared.spot.Spot.{Spot}
 use Rattle.vale_syntax.specs.declared.mark.Mark.{Mark}
 use Rattle.vale_syntax.specs.declared.mark.Mark.TheVariants as mark
-use Rattle.vale_syntax.specs.declared.lookahead.Lookahead.{Lookahead}
 use Rattle.vale_syntax.specs.declared.lookahead.Lookahead.TheVariants as see
-use Rattle.vale_syntax.specs.declared.expr.Name.{Name}
 use Rattle.vale_syntax.specs.declared.statement.SortName.{SortName}
-use Rattle.vale_syntax.specs.Operators.{any}
 use Rattle.vale_syntax.specs.Peek.{peek, spot_of}
 use Rattle.vale_syntax.specs.Trees.{Ex}
 use Rattle.vale_syntax.specs.Expressions.{name_of}
 use Rattle.vale_syntax.specs.Lists.{Many}
-use Rattle.vale_syntax.specs.Programs.{Ar, St, Sts, no_sts, more_sts, Arm, no_arm, arm, Call, Assert, Ghost, Assign, If, While, InlineIf}
-use Rattle.vale_syntax.specs.Statements.{Expression, sort_at, sts_last, Argument, Invariant, invariant_ as is_invariant_, Simple, call, assert_, ghost_, assign, Test, test as is_test, Statement, simple as is_simple, if_, while_, inline_if, Block, block as is_block, Body, ended, further, Else, absent, present}
+use Rattle.vale_syntax.specs.Programs.{St, Sts, no_sts, Arm, no_arm, arm, Call, Assert, Ghost, Assign, If, While, InlineIf}
+use Rattle.vale_syntax.specs.Statements.{sort_at, sts_last, Argument, Invariant, invariant_ as is_invariant_, Simple, call, assert_, ghost_, assign, Test, test as is_test, Statement, simple as is_simple, if_, while_, inline_if, Block, block as is_block, Body, ended, further, Else, absent, present}
 use Rattle.vale_syntax.proofs.Complete.{loose}
 use Rattle.expr_parser.specs.Reads.{expression}
-use Rattle.vale_parser.specs.Parts.{bind as and_then, Parser, mark_eq, is_mark, expect, before, closed, many}
-use Rattle.vale_parser.specs.Productions.{asked, is_if, is_else, is_invariant, is_decreases, name, sort_behind, expression_end, argument, invariant_, test, call_at, assign_at, named_by, ghost_statement, simple_by, simple, Stated, Bodied, Armed, Branches, stated, bodied, armed, branches, Statements, body, block, else_by, arms, if_at, inline_if_at, loop_at, shallow, statement_by, statement}
-use Rattle.vale_parser.proofs.Parts.{bound, is_mark_of, expect_found, mark_left, word_left, name_left, closed_found, closed_short, many_found, many_short}
-use Rattle.vale_parser.proofs.Found.{dd, Ends, expression_found, expression_short, semicolon_found, round_found, name_found, sort_behind_found}
+use Rattle.vale_parser.specs.Parts.{bind as and_then, mark_eq, is_mark, expect, before, closed, many}
+use Rattle.vale_parser.specs.Productions.{asked, is_if, is_else, is_invariant, is_decreases, name, sort_behind, expression_end, argument, invariant_, test, named_by, simple_by, simple, Stated, stated, bodied, armed, branches, Statements, body, block, else_by, arms, inline_if_at, loop_at, shallow, statement_by, statement}
+use Rattle.vale_parser.proofs.Parts.{bound, expect_found, mark_left, word_left, closed_found, closed_short, many_found, many_short}
+use Rattle.vale_parser.proofs.Found.{dd, Ends, expression_short, semicolon_found, round_found, name_found, sort_behind_found}
 use Rattle.vale_parser.proofs.FoundArguments.{Follows, argument_found, argument_short, argument_starts}
 
 -- what stands some tokens behind
@@ -59,15 +54,15 @@ unfolding simple
 simple_found ts x rest (call {mid = mid} {a = a} p q c s) =
     ap (λ f. simple_by f ts) p ∙ ap (λ f. named_by f ts) q
     ∙ bound (before mark.Semicolon (closed argument (drop 2 ts))) (a, drop 1 mid) (λ a. Some (Call (name_of ts) a.0, a.1)) _
-        (before_of mark.Semicolon (closed argument (drop 2 ts)) a mid (closed_found Argument argument Follows argument_found argument_short follows_comma follows_close argument_starts (drop 2 ts) a mid c) refl s) refl
+    (before_of mark.Semicolon (closed argument (drop 2 ts)) a mid (closed_found Argument argument Follows argument_found argument_short follows_comma follows_close argument_starts (drop 2 ts) a mid c) refl s) refl
 simple_found ts x rest (assert_ {mid = mid} {x = y} p e s) =
     ap (λ f. simple_by f ts) p ∙ bound (expression_end ts) (y, drop 1 mid) (λ x. Some (Assert (spot_of ts) x.0, x.1)) _ (semicolon_found (drop 1 ts) y mid e s) refl
 simple_found ts x rest (ghost_ {mid = mid} {s = t} {x = y} p a b c d e s) =
     ap (λ f. simple_by f ts) p
     ∙ bound (name (drop 1 ts)) (name_of (drop 1 ts), drop 2 ts) (λ n. and_then (sort_behind n.1) (λ s. and_then (expect mark.Equals s.1) (λ rest.
-        and_then (before mark.Semicolon (expression rest)) (λ x. Some (Ghost (spot_of ts) n.0 s.0 x.0, x.1))))) _ (name_at 1 ts a)
+    and_then (before mark.Semicolon (expression rest)) (λ x. Some (Ghost (spot_of ts) n.0 s.0 x.0, x.1))))) _ (name_at 1 ts a)
     (bound (sort_behind (drop 2 ts)) (t, drop 4 ts) (λ s. and_then (expect mark.Equals s.1) (λ rest.
-        and_then (before mark.Semicolon (expression rest)) (λ x. Some (Ghost (spot_of ts) (name_of (drop 1 ts)) s.0 x.0, x.1)))) _ (sort_behind_at 2 ts t b c)
+    and_then (before mark.Semicolon (expression rest)) (λ x. Some (Ghost (spot_of ts) (name_of (drop 1 ts)) s.0 x.0, x.1)))) _ (sort_behind_at 2 ts t b c)
     (bound (expect mark.Equals (drop 4 ts)) (drop 5 ts) (λ rest. and_then (before mark.Semicolon (expression rest)) (λ x. Some (Ghost (spot_of ts) (name_of (drop 1 ts)) t x.0, x.1))) _ (expect_at mark.Equals 4 ts refl d)
     (bound (before mark.Semicolon (expression (drop 5 ts))) (y, drop 1 mid) (λ x. Some (Ghost (spot_of ts) (name_of (drop 1 ts)) t x.0, x.1)) _ (semicolon_found (drop 5 ts) y mid e s) refl)))
 simple_found ts x rest (assign {mid = mid} {x = y} p q e s) =
@@ -198,7 +193,7 @@ body_end sub n xs d ts p = rw p refl
 arms_of : {d e : ℕ} (a c : List Token) {xs : Sts} {y : Arm} {rest : List Token} (b : ℕ) → block (statement b) a ≡ Some (bodied xs d c) → else_by (statement b) c ≡ Some (armed y e rest) → arms (statement b) a ≡ Some (branches xs y (suc (max d e)) rest)
 arms_of {d = d} {e = e} a c {xs = xs} {y = y} {rest = rest} b first second =
     bound (block (statement b) a) (bodied xs d c) (λ b'. and_then (else_by (statement b) b'.rest) (λ e. Some (branches b'.trees e.arm (suc (max b'.height e.height)) e.rest))) _ first
-        (bound (else_by (statement b) c) (armed y e rest) (λ e. Some (branches xs e.arm (suc (max d e.height)) e.rest)) _ second refl)
+    (bound (else_by (statement b) c) (armed y e rest) (λ e. Some (branches xs e.arm (suc (max d e.height)) e.rest)) _ second refl)
 
 mutual
   statement_of : {d : ℕ} {ts : List Token} {x : St} {rest : List Token} → Statement d ts x rest → (b : ℕ) → d ≤ suc b → is_else (peek rest) ≡ false → statement_by (statement b) (peek ts) ts ≡ Some (stated x d rest)
@@ -207,20 +202,20 @@ mutual
   statement_of (if_ {d = d} {e = e} {ts = ts} {a = a} {rest = rest} {t = t} {xs = xs} {y = y} p tested first second) b k l =
       ap (λ f. statement_by (statement b) f ts) p
       ∙ bound (test (drop 1 ts)) (t, a) (λ t. and_then (arms (statement b) t.1) (λ a. Some (stated (If (spot_of ts) t.0 a.first a.second) a.height a.rest))) _ (test_found (drop 1 ts) t a tested)
-          (bound (arms (statement b) a) (branches xs y (suc (max d e)) rest) (λ a. Some (stated (If (spot_of ts) t a.first a.second) a.height a.rest)) _ (arms_of a _ b (block_of first b (omega (arith, k))) (else_of second b (omega (arith, k)) l)) refl)
+      (bound (arms (statement b) a) (branches xs y (suc (max d e)) rest) (λ a. Some (stated (If (spot_of ts) t a.first a.second) a.height a.rest)) _ (arms_of a _ b (block_of first b (omega (arith, k))) (else_of second b (omega (arith, k)) l)) refl)
   statement_of (inline_if {d = d} {e = e} {ts = ts} {a = a} {rest = rest} {t = t} {xs = xs} {y = y} p q tested first second) b k l =
       ap (λ f. statement_by (statement b) f ts) p
       ∙ ap (λ f. inline_if_at (statement b) (spot_of ts) (asked (is_if f) (test (drop 2 ts)))) q
       ∙ bound (test (drop 2 ts)) (t, a) (λ t. and_then (arms (statement b) t.1) (λ a. Some (stated (InlineIf (spot_of ts) t.0 a.first a.second) a.height a.rest))) _ (test_found (drop 2 ts) t a tested)
-          (bound (arms (statement b) a) (branches xs y (suc (max d e)) rest) (λ a. Some (stated (InlineIf (spot_of ts) t a.first a.second) a.height a.rest)) _ (arms_of a _ b (block_of first b (omega (arith, k))) (else_of second b (omega (arith, k)) l)) refl)
+      (bound (arms (statement b) a) (branches xs y (suc (max d e)) rest) (λ a. Some (stated (InlineIf (spot_of ts) t a.first a.second) a.height a.rest)) _ (arms_of a _ b (block_of first b (omega (arith, k))) (else_of second b (omega (arith, k)) l)) refl)
   statement_of (while_ {d = d} {ts = ts} {a = a} {b = c} {c = u} {rest = rest} {t = t} {m = m} {is = is} {xs = xs} p tested invariants q measure s inner) b k l =
       ap (λ f. statement_by (statement b) f ts) p
       ∙ bound (test (drop 1 ts)) (t, a) (loop_at (statement b) (spot_of ts)) _ (test_found (drop 1 ts) t a tested)
-          (bound (many is_invariant invariant_ (length a) [] a) (is, c) (λ is. and_then (asked (is_decreases (peek is.1)) (expression_end is.1)) (λ m.
-              and_then (block (statement b) m.1) (λ b. Some (stated (While (spot_of ts) t is.0 m.0 b.trees) (suc b.height) b.rest)))) _ (invariants_found a is c invariants (ap is_invariant q))
-          (bound (asked (is_decreases (peek c)) (expression_end c)) (m, drop 1 u) (λ m. and_then (block (statement b) m.1) (λ b. Some (stated (While (spot_of ts) t is m.0 b.trees) (suc b.height) b.rest))) _
-              (ap (λ f. asked (is_decreases f) (expression_end c)) q ∙ semicolon_found (drop 1 c) m u measure s)
-          (bound (block (statement b) (drop 1 u)) (bodied xs d rest) (λ b. Some (stated (While (spot_of ts) t is m b.trees) (suc b.height) b.rest)) _ (block_of inner b (omega (arith, k))) refl)))
+      (bound (many is_invariant invariant_ (length a) [] a) (is, c) (λ is. and_then (asked (is_decreases (peek is.1)) (expression_end is.1)) (λ m.
+      and_then (block (statement b) m.1) (λ b. Some (stated (While (spot_of ts) t is.0 m.0 b.trees) (suc b.height) b.rest)))) _ (invariants_found a is c invariants (ap is_invariant q))
+      (bound (asked (is_decreases (peek c)) (expression_end c)) (m, drop 1 u) (λ m. and_then (block (statement b) m.1) (λ b. Some (stated (While (spot_of ts) t is m.0 b.trees) (suc b.height) b.rest))) _
+      (ap (λ f. asked (is_decreases f) (expression_end c)) q ∙ semicolon_found (drop 1 c) m u measure s)
+      (bound (block (statement b) (drop 1 u)) (bodied xs d rest) (λ b. Some (stated (While (spot_of ts) t is m b.trees) (suc b.height) b.rest)) _ (block_of inner b (omega (arith, k))) refl)))
 
   pub block_of : {d : ℕ} {ts : List Token} {xs : Sts} {rest : List Token} → Block d ts xs rest → (b : ℕ) → d ≤ b → block (statement b) ts ≡ Some (bodied xs d rest)
   block_of (is_block {d = d} {ts = ts} {mid = mid} {xs = xs} p inner q) b k =

@@ -1,5 +1,5 @@
 -- Lists that are found are spelled, and those that are spelled are found.
-use Rattle.std.proofs.Common.{◌≡◌, ℕ, zero, suc, ◌+◌, ◌-◌, ◌<◌, ◌≤◌, Bool, true, false, cond, List, [], ◌∷◌, ◌++◌, length, drop, length-drop, Option, Some, None, refl, sym, ◌∙◌, ap, subst, arith}
+use Rattle.std.proofs.Common.{◌≡◌, ℕ, zero, suc, ◌≤◌, Bool, true, false, cond, List, [], ◌∷◌, ◌++◌, length, drop, length-drop, Option, Some, None, refl, sym, ◌∙◌, ap, subst, arith}
 use Rattle.std.proofs.lemmas.Bool.{false≢true}
 use Rattle.x64_syntax.specs.declared.keywords.Keyword.{Keyword}
 use Rattle.vale_syntax.specs.declared.token.Token.{Token}
@@ -73,7 +73,6 @@ name_left ts p = some_left ts see.Name p (λ e. absurd cc)
 module _ {A : Type 0} (Item : Relation A) (item : Parser A) (Follows : Lookahead → Type 0)
     (item_found : (ts : List Token) (x : A) (rest : List Token) → Item ts x rest → Follows (peek rest) → item ts ≡ Some (x, rest))
     (item_short : (ts : List Token) (x : A) (rest : List Token) → Item ts x rest → length rest ≤ length ts) where
-
   commas_short : (xs : List A) (ts : List Token) (ys : List A) (rest : List Token) → Commas Item xs ts ys rest → length rest ≤ length ts
   commas_short xs ts ys rest last = omega arith
   commas_short xs ts ys rest (next {y = y} {mid = mid} p h t) =
@@ -98,7 +97,7 @@ module _ {A : Type 0} (Item : Relation A) (item : Parser A) (Follows : Lookahead
       let d = length-drop 1 ts in
       ap (λ b. cond b (bind (item (drop 1 ts)) (λ p. commas item n (xs ++ p.0 ∷ []) p.1)) (Some (xs, ts))) (is_mark_of mark.Comma mark.Comma (peek ts) true p refl)
       ∙ bound (item (drop 1 ts)) (y, mid) (λ p. commas item n (xs ++ p.0 ∷ []) p.1) _ (item_found (drop 1 ts) y mid h (commas_follows comma _ mid ys rest t f))
-          (commas_found comma (xs ++ y ∷ []) mid ys rest t n (omega (arith, a, d, k)) e f)
+      (commas_found comma (xs ++ y ∷ []) mid ys rest t n (omega (arith, a, d, k)) e f)
 
   pub separated_short : (ts : List Token) (xs : List A) (rest : List Token) → Separated Item ts xs rest → length rest ≤ length ts
   separated_short ts xs rest (is_separated {x = x} {mid = mid} h t) = let a = item_short ts x mid h in let b = commas_short _ mid xs rest t in omega (arith, a, b)
@@ -106,7 +105,7 @@ module _ {A : Type 0} (Item : Relation A) (item : Parser A) (Follows : Lookahead
   pub separated_found : (Follows (see.Mark mark.Comma)) → (ts : List Token) (xs : List A) (rest : List Token) → Separated Item ts xs rest → is_mark mark.Comma (peek rest) ≡ false → Follows (peek rest) → separated item ts ≡ Some (xs, rest)
   separated_found comma ts xs rest (is_separated {x = x} {mid = mid} h t) e f =
       bound (item ts) (x, mid) (λ p. commas item (length ts) (p.0 ∷ []) p.1) _ (item_found ts x mid h (commas_follows comma _ mid xs rest t f))
-          (commas_found comma (x ∷ []) mid xs rest t (length ts) (item_short ts x mid h) e f)
+      (commas_found comma (x ∷ []) mid xs rest t (length ts) (item_short ts x mid h) e f)
 
   pub closed_short : (ts : List Token) (xs : List A) (rest : List Token) → Closed Item ts xs rest → length rest ≤ length ts
   closed_short ts xs rest (empty p) = let d = length-drop 1 ts in omega (arith, d)
@@ -119,8 +118,8 @@ module _ {A : Type 0} (Item : Relation A) (item : Parser A) (Follows : Lookahead
   closed_found comma close starts ts xs rest (filled {mid = mid} h p) =
       ap (λ b. cond b (Some ([], drop 1 ts)) (before mark.RoundClose (separated item ts))) (separated_starts h)
       ∙ bound (separated item ts) (xs, mid) (λ p. bind (expect mark.RoundClose p.1) (λ rest. Some (p.0, rest))) _
-          (separated_found comma ts xs mid h (is_mark_of mark.Comma mark.RoundClose (peek mid) false p refl) (subst Follows (sym p) close))
-          (bound (expect mark.RoundClose mid) (drop 1 mid) (λ rest. Some (xs, rest)) _ (expect_found mark.RoundClose mid refl p) refl)
+      (separated_found comma ts xs mid h (is_mark_of mark.Comma mark.RoundClose (peek mid) false p refl) (subst Follows (sym p) close))
+      (bound (expect mark.RoundClose mid) (drop 1 mid) (λ rest. Some (xs, rest)) _ (expect_found mark.RoundClose mid refl p) refl)
     where
       separated_starts : Separated Item ts xs mid → is_mark mark.RoundClose (peek ts) ≡ false
       separated_starts (is_separated {x = x} {mid = m} h t) = starts ts x m h
@@ -130,7 +129,6 @@ module _ {A : Type 0} (Item : Relation A) (item : Parser A) (begins : Lookahead 
     (item_found : (ts : List Token) (x : A) (rest : List Token) → Item ts x rest → item ts ≡ Some (x, rest))
     (item_begins : (ts : List Token) (x : A) (rest : List Token) → Item ts x rest → begins (peek ts) ≡ true)
     (item_shorter : (ts : List Token) (x : A) (rest : List Token) → Item ts x rest → suc (length rest) ≤ length ts) where
-
   pub many_short : (xs : List A) (ts : List Token) (ys : List A) (rest : List Token) → Many Item xs ts ys rest → length rest ≤ length ts
   many_short xs ts ys rest enough = omega arith
   many_short xs ts ys rest (again {y = y} {mid = mid} h t) = let a = item_shorter ts y mid h in let b = many_short _ mid ys rest t in omega (arith, a, b)
@@ -147,7 +145,6 @@ module _ {A : Type 0} (Item : Relation A) (item : Parser A) (begins : Lookahead 
 
 -- what is found in lists is spelled
 module _ {A : Type 0} (Item : Relation A) (item : Parser A) (item_sound : (ts : List Token) (x : A) (rest : List Token) → item ts ≡ Some (x, rest) → Item ts x rest) where
-
   inside : {B : Type 0} (p q : B × List Token) → Some p ≡ Some q → (p.0 ≡ q.0) × (p.1 ≡ q.1)
   inside p q h = (cc, cc)
 

@@ -1,11 +1,9 @@
 -- What is found is spelled: the productions without statements.
-use Rattle.std.proofs.Common.{◌≡◌, ℕ, zero, suc, ◌+◌, Bool, true, false, cond, List, [], ◌∷◌, length, drop, Option, Some, None, refl, sym, ◌∙◌, ap, subst, arith}
+use Rattle.std.proofs.Common.{◌≡◌, ℕ, ◌+◌, Bool, true, false, cond, List, drop, Option, Some, None, refl, sym, ◌∙◌, ap, subst}
 use Rattle.std.specs.Prelude.{◌&&◌}
 use Rattle.std.proofs.lemmas.Bool.{and_parts, false≢true}
-use Rattle.x64_syntax.specs.declared.keywords.Keyword.{Keyword}
 use Rattle.x64_syntax.specs.declared.keywords.Keyword.TheVariants as word
 use Rattle.vale_syntax.specs.declared.token.Token.{Token}
-use Rattle.vale_syntax.specs.declared.spot.Spot.{Spot}
 use Rattle.vale_syntax.specs.declared.mark.Mark.{Mark}
 use Rattle.vale_syntax.specs.declared.mark.Mark.TheVariants as mark
 use Rattle.vale_syntax.specs.declared.lookahead.Lookahead.{Lookahead}
@@ -17,7 +15,6 @@ use Rattle.vale_syntax.specs.declared.declaration.Kind.{Kind}
 use Rattle.vale_syntax.specs.declared.declaration.Bind.{Bind}
 use Rattle.vale_syntax.specs.declared.declaration.Param.{Param}
 use Rattle.vale_syntax.specs.declared.declaration.Param.TheVariants as param
-use Rattle.vale_syntax.specs.declared.declaration.Direction.{Direction}
 use Rattle.vale_syntax.specs.declared.declaration.Direction.TheVariants as direction
 use Rattle.vale_syntax.specs.declared.declaration.ReadPlace.{ReadPlace}
 use Rattle.vale_syntax.specs.Operators.{any}
@@ -25,15 +22,15 @@ use Rattle.vale_syntax.specs.Peek.{peek, spot_of}
 use Rattle.vale_syntax.specs.Trees.{Ex}
 use Rattle.vale_syntax.specs.Expressions.{name_of, depth_limit}
 use Rattle.vale_syntax.specs.Parse.{parse}
-use Rattle.vale_syntax.specs.Lists.{Relation, Closed, Separated}
+use Rattle.vale_syntax.specs.Lists.{Relation}
 use Rattle.vale_syntax.specs.Programs.{Ar, Memory, Value}
 use Rattle.vale_syntax.specs.Statements.{Expression, sort_at, Argument, memory, value, Invariant, invariant_ as is_invariant_, Test, test as is_test}
 use Rattle.vale_syntax.specs.Declarations.{IsName, name as is_name_, IsBind, bind as is_bind, IsSecret, secret, open_, IsPlace, place as is_place, IsParam, operand, out, inline_, ghost_, block as is_block, kind_at, direction_by}
 use Rattle.vale_syntax.proofs.Sound.{bind_some as parse_some, sound}
 use Rattle.expr_parser.specs.Reads.{expression}
-use Rattle.vale_parser.specs.Parts.{bind as and_then, Parser, is_mark, expect, before, separated, closed}
-use Rattle.vale_parser.specs.Productions.{asked, is_name, is_secret, is_invariant, name, sort_behind, kind_behind, bind, place_at, place, operand_at, out_at, inline_sort, inline_at, ghost_at, block_at, guarded_by, guarded, param_by, parameter, memory_at, value_at, argument_by, argument, expression_end, invariant_, test}
-use Rattle.vale_parser.proofs.Parts.{same, bind_some, peek_is, expected, separated_sound, closed_sound}
+use Rattle.vale_parser.specs.Parts.{bind as and_then, is_mark, expect, before, separated}
+use Rattle.vale_parser.specs.Productions.{asked, is_name, is_secret, is_invariant, name, sort_behind, kind_behind, bind, place_at, place, inline_sort, guarded_by, param_by, parameter, memory_at, value_at, argument_by, argument, expression_end, invariant_, test}
+use Rattle.vale_parser.proofs.Parts.{same, bind_some, peek_is, expected, separated_sound}
 use Rattle.vale_parser.proofs.Found.{dd}
 
 pub pair_of : {A : Type 0} (p q : A × List Token) → Some p ≡ Some q → (p.0 ≡ q.0) × (p.1 ≡ q.1)

@@ -1,9 +1,8 @@
 -- What is found is spelled: clauses and declarations.
-use Rattle.std.proofs.Common.{◌≡◌, ℕ, zero, suc, ◌+◌, ◌≤◌, Bool, true, false, List, [], ◌∷◌, length, drop, Option, Some, None, refl, sym, ◌∙◌, ap, subst, arith}
+use Rattle.std.proofs.Common.{◌≡◌, ℕ, ◌+◌, true, List, [], length, drop, Option, Some, None, refl, sym, ◌∙◌, ap, subst, arith}
 use Rattle.std.proofs.lemmas.Bool.{false≢true}
 use Rattle.x64_syntax.specs.declared.keywords.Keyword.TheVariants as word
 use Rattle.vale_syntax.specs.declared.token.Token.{Token}
-use Rattle.vale_syntax.specs.declared.spot.Spot.{Spot}
 use Rattle.vale_syntax.specs.declared.mark.Mark.{Mark}
 use Rattle.vale_syntax.specs.declared.mark.Mark.TheVariants as mark
 use Rattle.vale_syntax.specs.declared.lookahead.Lookahead.{Lookahead}
@@ -11,10 +10,7 @@ use Rattle.vale_syntax.specs.declared.lookahead.Lookahead.TheVariants as see
 use Rattle.vale_syntax.specs.declared.expr.Name.{Name}
 use Rattle.vale_syntax.specs.declared.statement.SortName.{SortName}
 use Rattle.vale_syntax.specs.declared.declaration.Bind.{Bind}
-use Rattle.vale_syntax.specs.declared.declaration.Param.{Param}
-use Rattle.vale_syntax.specs.declared.declaration.ReadPlace.{ReadPlace}
 use Rattle.vale_syntax.specs.Peek.{peek, spot_of}
-use Rattle.vale_syntax.specs.Trees.{Ex}
 use Rattle.vale_syntax.specs.Expressions.{name_of}
 use Rattle.vale_syntax.specs.Lists.{Closed}
 use Rattle.vale_syntax.specs.Programs.{Cl, Reads, Modifies, Requires, Ensures, Stack, Abi, LCl, LRequires, LEnsures, LDecreases, De, Procedure, Lemma, Function, Export}
@@ -22,8 +18,8 @@ use Rattle.vale_syntax.specs.Statements.{Expression, sort_at, statement_limit}
 use Rattle.vale_syntax.specs.Declarations.{IsName, IsBind, IsPlace, IsParam, abi_at, IsClause, reads, modifies, requires_, ensures_, stack, abi_, IsLClause, lrequires, lensures, ldecreases, Head, Declaration, procedure_ as is_procedure, lemma_ as is_lemma, function_ as is_function, recursive, export_ as is_export}
 use Rattle.expr_parser.specs.Reads.{expression}
 use Rattle.vale_parser.specs.Parts.{bind as and_then, expect, before, separated, closed, many}
-use Rattle.vale_parser.specs.Productions.{asked, is_zero, is_step, name, sort_behind, bind, place, parameter, expression_end, clause_by, clause, begins_clause, lclause_by, lclause, begins_lclause, head, block, statement, lblock, lstatement, procedure_, lemma_, Header, header, plain_at, parts_at, result_by, result_at, function_, export_, declaration_by, declaration}
-use Rattle.vale_parser.proofs.Parts.{same, bind_some, separated_sound, closed_sound, many_sound}
+use Rattle.vale_parser.specs.Productions.{asked, is_zero, is_step, name, sort_behind, bind, place, parameter, expression_end, clause_by, clause, begins_clause, lclause_by, lclause, begins_lclause, head, block, statement, lblock, lstatement, procedure_, lemma_, header, result_by, result_at, function_, export_, declaration_by, declaration}
+use Rattle.vale_parser.proofs.Parts.{bind_some, separated_sound, closed_sound, many_sound}
 use Rattle.vale_parser.proofs.Found.{dd}
 use Rattle.vale_parser.proofs.Sound.{pair_of, finish, on_asked, on_name, on_expect, on_sort, on_before, before_is, expression_sound, name_sound, bind_sound, place_sound, parameter_sound}
 use Rattle.vale_parser.proofs.SoundStatements.{statements_sound}
@@ -104,9 +100,9 @@ on_head k ts F y e h = let a = on_name_before mark.RoundOpen 1 ts F y h in (reco
 procedure_sound : (ts : List Token) (x : De) (rest : List Token) → peek ts ≡ see.Keyword word.Procedure → procedure_ ts ≡ Some (x, rest) → Declaration ts x rest
 procedure_sound ts x rest e h =
     let a = on_head (see.Keyword word.Procedure) ts (λ n. and_then (closed parameter n.1) (λ ps. and_then (many begins_clause clause (length ps.1) [] ps.1) (λ cs.
-        and_then (block (statement statement_limit) cs.1) (λ b. Some (Procedure (spot_of ts) n.0 ps.0 cs.0 b.trees, b.rest))))) (x, rest) e h in
+    and_then (block (statement statement_limit) cs.1) (λ b. Some (Procedure (spot_of ts) n.0 ps.0 cs.0 b.trees, b.rest))))) (x, rest) e h in
     let (ps, p, q) = bind_some (closed parameter (drop 3 ts)) (λ ps. and_then (many begins_clause clause (length ps.1) [] ps.1) (λ cs.
-        and_then (block (statement statement_limit) cs.1) (λ b. Some (Procedure (spot_of ts) (name_of (drop 1 ts)) ps.0 cs.0 b.trees, b.rest)))) (x, rest) a.1 in
+    and_then (block (statement statement_limit) cs.1) (λ b. Some (Procedure (spot_of ts) (name_of (drop 1 ts)) ps.0 cs.0 b.trees, b.rest)))) (x, rest) a.1 in
     let (cs, r, s) = bind_some (many begins_clause clause (length ps.1) [] ps.1) (λ cs. and_then (block (statement statement_limit) cs.1) (λ b. Some (Procedure (spot_of ts) (name_of (drop 1 ts)) ps.0 cs.0 b.trees, b.rest))) (x, rest) q in
     let (b, t, u) = bind_some (block (statement statement_limit) cs.1) (λ b. Some (Procedure (spot_of ts) (name_of (drop 1 ts)) ps.0 cs.0 b.trees, b.rest)) (x, rest) s in
     let c = statements_sound statement_limit cs.1 b t in
@@ -115,9 +111,9 @@ procedure_sound ts x rest e h =
 lemma_sound : (ts : List Token) (x : De) (rest : List Token) → peek ts ≡ see.Keyword word.Lemma → lemma_ ts ≡ Some (x, rest) → Declaration ts x rest
 lemma_sound ts x rest e h =
     let a = on_head (see.Keyword word.Lemma) ts (λ n. and_then (closed bind n.1) (λ bs. and_then (many begins_lclause lclause (length bs.1) [] bs.1) (λ cs.
-        and_then (lblock (lstatement statement_limit) cs.1) (λ b. Some (Lemma (spot_of ts) n.0 bs.0 cs.0 b.trees, b.rest))))) (x, rest) e h in
+    and_then (lblock (lstatement statement_limit) cs.1) (λ b. Some (Lemma (spot_of ts) n.0 bs.0 cs.0 b.trees, b.rest))))) (x, rest) e h in
     let (bs, p, q) = bind_some (closed bind (drop 3 ts)) (λ bs. and_then (many begins_lclause lclause (length bs.1) [] bs.1) (λ cs.
-        and_then (lblock (lstatement statement_limit) cs.1) (λ b. Some (Lemma (spot_of ts) (name_of (drop 1 ts)) bs.0 cs.0 b.trees, b.rest)))) (x, rest) a.1 in
+    and_then (lblock (lstatement statement_limit) cs.1) (λ b. Some (Lemma (spot_of ts) (name_of (drop 1 ts)) bs.0 cs.0 b.trees, b.rest)))) (x, rest) a.1 in
     let (cs, r, s) = bind_some (many begins_lclause lclause (length bs.1) [] bs.1) (λ cs. and_then (lblock (lstatement statement_limit) cs.1) (λ b. Some (Lemma (spot_of ts) (name_of (drop 1 ts)) bs.0 cs.0 b.trees, b.rest))) (x, rest) q in
     let (b, t, u) = bind_some (lblock (lstatement statement_limit) cs.1) (λ b. Some (Lemma (spot_of ts) (name_of (drop 1 ts)) bs.0 cs.0 b.trees, b.rest)) (x, rest) s in
     let c = lstatements_sound statement_limit cs.1 b t in
@@ -131,7 +127,7 @@ result_sound ts a bs s x rest hd c p q (see.Mark mark.Equals) e h =
 result_sound ts a bs s x rest hd c p q (see.Mark mark.BraceOpen) e h =
     let us = drop 1 (drop 2 a) in
     let (y, r, t) = bind_some (asked (is_zero (peek us)) (expression_end us)) (λ x. and_then (asked (is_step (peek x.1)) (expression_end x.1)) (λ y.
-        and_then (expect mark.BraceClose y.1) (λ rest. Some (Function (spot_of ts) (name_of (drop 1 ts)) bs s (Some x.0) y.0, rest)))) (x, rest) h in
+    and_then (expect mark.BraceClose y.1) (λ rest. Some (Function (spot_of ts) (name_of (drop 1 ts)) bs s (Some x.0) y.0, rest)))) (x, rest) h in
     let (z, u, v) = bind_some (asked (is_step (peek y.1)) (expression_end y.1)) (λ z. and_then (expect mark.BraceClose z.1) (λ rest. Some (Function (spot_of ts) (name_of (drop 1 ts)) bs s (Some y.0) z.0, rest))) (x, rest) t in
     let g = on_asked (is_zero (peek us)) (expression_end us) y r in
     let i = on_asked (is_step (peek y.1)) (expression_end y.1) z u in
@@ -139,8 +135,8 @@ result_sound ts a bs s x rest hd c p q (see.Mark mark.BraceOpen) e h =
     let (d, m, n, o) = before_is mark.Semicolon (expression (drop 1 y.1)) z.0 z.1 i.1 in
     let w = on_expect mark.BraceClose 1 d (λ rest. Some (Function (spot_of ts) (name_of (drop 1 ts)) bs s (Some y.0) z.0, rest)) (x, rest) (ap (λ l. and_then (expect mark.BraceClose l) (λ rest. Some (Function (spot_of ts) (name_of (drop 1 ts)) bs s (Some y.0) z.0, rest))) o ∙ v) in
     finish Declaration ts _ (x, rest) w.1
-        (recursive hd c p q e (ap peek (sym (dd 2 1 a)) ∙ zero_is (peek us) g.0) (subst (λ l. Expression l y.0 b) (dd 1 1 (drop 2 a) ∙ dd 2 2 a) (expression_sound (drop 1 us) y.0 b j)) k
-            (ap peek l ∙ step_is (peek y.1) i.0) (subst (λ l. Expression l z.0 d) (ap (λ l. drop 1 l) (sym l) ∙ dd 1 1 b) (expression_sound (drop 1 y.1) z.0 d m)) n w.0)
+    (recursive hd c p q e (ap peek (sym (dd 2 1 a)) ∙ zero_is (peek us) g.0) (subst (λ l. Expression l y.0 b) (dd 1 1 (drop 2 a) ∙ dd 2 2 a) (expression_sound (drop 1 us) y.0 b j)) k
+    (ap peek l ∙ step_is (peek y.1) i.0) (subst (λ l. Expression l z.0 d) (ap (λ l. drop 1 l) (sym l) ∙ dd 1 1 b) (expression_sound (drop 1 y.1) z.0 d m)) n w.0)
 result_sound ts a bs s x rest hd c p q _ e h = absurd cc
 
 function_sound : (ts : List Token) (x : De) (rest : List Token) → peek ts ≡ see.Keyword word.Function → function_ ts ≡ Some (x, rest) → Declaration ts x rest

@@ -1,17 +1,16 @@
 -- What is found is spelled: statements of lemmas.
-use Rattle.std.proofs.Common.{◌≡◌, ℕ, zero, suc, ◌+◌, ◌<◌, ◌≤◌, max, Bool, true, false, cond, List, [], ◌∷◌, length, drop, Option, Some, None, refl, sym, ◌∙◌, ap, subst, arith}
+use Rattle.std.proofs.Common.{◌≡◌, ℕ, zero, suc, ◌≤◌, max, Bool, true, false, cond, List, length, drop, Some, refl, sym, subst, arith}
 use Rattle.x64_syntax.specs.declared.keywords.Keyword.TheVariants as word
 use Rattle.vale_syntax.specs.declared.token.Token.{Token}
 use Rattle.vale_syntax.specs.declared.mark.Mark.TheVariants as mark
 use Rattle.vale_syntax.specs.declared.lookahead.Lookahead.{Lookahead}
 use Rattle.vale_syntax.specs.declared.lookahead.Lookahead.TheVariants as see
 use Rattle.vale_syntax.specs.Peek.{peek, spot_of}
-use Rattle.vale_syntax.specs.Trees.{Ex}
 use Rattle.vale_syntax.specs.Expressions.{name_of}
-use Rattle.vale_syntax.specs.Programs.{LSt, LSts, no_lsts, LArm, no_larm, larm, LCall, LAssert, LIf}
-use Rattle.vale_syntax.specs.Statements.{Expression, lsts_last, Test, LStatement, lcall as is_lcall, lassert, lif, LBlock, lblock as is_lblock, LBody, lended, lfurther, LElse, labsent, lpresent}
+use Rattle.vale_syntax.specs.Programs.{LSts, no_lsts, no_larm, larm, LCall, LAssert, LIf}
+use Rattle.vale_syntax.specs.Statements.{Expression, lsts_last, LStatement, lcall as is_lcall, lassert, lif, LBlock, lblock as is_lblock, LBody, lended, lfurther, LElse, labsent, lpresent}
 use Rattle.expr_parser.specs.Reads.{expression}
-use Rattle.vale_parser.specs.Parts.{bind as and_then, is_mark, expect, before, closed}
+use Rattle.vale_parser.specs.Parts.{bind as and_then, is_mark, before, closed}
 use Rattle.vale_parser.specs.Productions.{is_else, test, lcall, LStated, LBodied, LArmed, LBranches, lstated, lbodied, larmed, lbranches, LStatements, lbody, lblock, lelse_by, larms, lif_at, lstatement_by, lstatement}
 use Rattle.vale_parser.proofs.Parts.{same, bind_some, peek_is, closed_sound}
 use Rattle.vale_parser.proofs.Sound.{on_expect, on_before, expression_sound, test_sound}

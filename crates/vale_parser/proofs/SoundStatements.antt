@@ -1,21 +1,19 @@
 -- What is found is spelled: statements of procedures.
-use Rattle.std.proofs.Common.{◌≡◌, ℕ, zero, suc, ◌+◌, ◌<◌, ◌≤◌, max, Bool, true, false, cond, List, [], ◌∷◌, length, drop, Option, Some, None, refl, sym, ◌∙◌, ap, subst, arith}
+use Rattle.std.proofs.Common.{◌≡◌, ℕ, zero, suc, ◌≤◌, max, Bool, true, false, cond, List, [], length, drop, Some, refl, sym, subst, arith}
 use Rattle.std.proofs.lemmas.Bool.{false≢true}
 use Rattle.x64_syntax.specs.declared.keywords.Keyword.TheVariants as word
 use Rattle.vale_syntax.specs.declared.token.Token.{Token}
-use Rattle.vale_syntax.specs.declared.spot.Spot.{Spot}
 use Rattle.vale_syntax.specs.declared.mark.Mark.TheVariants as mark
 use Rattle.vale_syntax.specs.declared.lookahead.Lookahead.{Lookahead}
 use Rattle.vale_syntax.specs.declared.lookahead.Lookahead.TheVariants as see
 use Rattle.vale_syntax.specs.Peek.{peek, spot_of}
-use Rattle.vale_syntax.specs.Trees.{Ex}
 use Rattle.vale_syntax.specs.Expressions.{name_of}
-use Rattle.vale_syntax.specs.Programs.{St, Sts, no_sts, Arm, no_arm, arm, Call, Assert, Ghost, Assign, If, While, InlineIf}
-use Rattle.vale_syntax.specs.Statements.{Expression, sts_last, Argument, Invariant, Simple, call, assert_, ghost_, assign, Test, Statement, simple as is_simple, if_, while_, inline_if, Block, block as is_block, Body, ended, further, Else, absent, present}
+use Rattle.vale_syntax.specs.Programs.{St, Sts, no_sts, no_arm, arm, Call, Assert, Ghost, Assign, If, While, InlineIf}
+use Rattle.vale_syntax.specs.Statements.{sts_last, Argument, Invariant, Simple, call, assert_, ghost_, assign, Statement, simple as is_simple, if_, while_, inline_if, Block, block as is_block, Body, ended, further, Else, absent, present}
 use Rattle.expr_parser.specs.Reads.{expression}
 use Rattle.vale_parser.specs.Parts.{bind as and_then, is_mark, expect, before, closed, many}
 use Rattle.vale_parser.specs.Productions.{asked, is_if, is_else, is_invariant, is_decreases, sort_behind, expression_end, argument, invariant_, test, named_by, simple_by, simple, Stated, Bodied, Armed, Branches, stated, bodied, armed, branches, Statements, body, block, else_by, arms, if_at, inline_if_at, loop_at, shallow, statement_by, statement}
-use Rattle.vale_parser.proofs.Parts.{same, bind_some, peek_is, expected, closed_sound, many_sound}
+use Rattle.vale_parser.proofs.Parts.{same, bind_some, peek_is, closed_sound, many_sound}
 use Rattle.vale_parser.proofs.Sound.{finish, on_asked, on_name, on_expect, on_sort, on_before, before_is, expression_sound, argument_sound, invariant_sound, test_sound}
 
 named_sound : (ts : List Token) (x : St) (rest : List Token) → peek ts ≡ see.Name → (f : Lookahead) → peek (drop 1 ts) ≡ f → named_by f ts ≡ Some (x, rest) → Simple ts x rest
@@ -145,16 +143,18 @@ unfolding StatementTo
 while_sound sub b ts s sound e h =
     let (t, p, q) = bind_some (test (drop 1 ts)) (loop_at sub (spot_of ts)) s h in
     let (is, r, u) = bind_some (many is_invariant invariant_ (length t.1) [] t.1) (λ is. and_then (asked (is_decreases (peek is.1)) (expression_end is.1)) (λ m.
-        and_then (block sub m.1) (λ b. Some (stated (While (spot_of ts) t.0 is.0 m.0 b.trees) (suc b.height) b.rest)))) s q in
+    and_then (block sub m.1) (λ b. Some (stated (While (spot_of ts) t.0 is.0 m.0 b.trees) (suc b.height) b.rest)))) s q in
     let (m, v, w) = bind_some (asked (is_decreases (peek is.1)) (expression_end is.1)) (λ m. and_then (block sub m.1) (λ b. Some (stated (While (spot_of ts) t.0 is.0 m.0 b.trees) (suc b.height) b.rest))) s u in
     let (l, x, y) = bind_some (block sub m.1) (λ b. Some (stated (While (spot_of ts) t.0 is.0 m.0 b.trees) (suc b.height) b.rest)) s w in
     let g = on_asked (is_decreases (peek is.1)) (expression_end is.1) m v in
     let (c, i, j, k) = before_is mark.Semicolon (expression (drop 1 is.1)) m.0 m.1 g.1 in
     let blk = block_sound sub b m.1 l sound x in
     let low = blk.0 in
-    subst (StatementTo b ts) (same _ s y)
-        (omega (arith, low), while_ e (test_sound (drop 1 ts) t.0 t.1 p) (many_sound Invariant invariant_ invariant_sound is_invariant (length t.1) [] t.1 is.0 is.1 r) (decreases_is (peek is.1) g.0)
-            (expression_sound (drop 1 is.1) m.0 c i) j (subst (λ z. Block l.height z l.trees l.rest) (sym k) blk.1))
+    subst (StatementTo b ts) (same _ s y) (
+      omega (arith, low),
+      while_ e (test_sound (drop 1 ts) t.0 t.1 p) (many_sound Invariant invariant_ invariant_sound is_invariant (length t.1) [] t.1 is.0 is.1 r) (decreases_is (peek is.1) g.0)
+          (expression_sound (drop 1 is.1) m.0 c i) j (subst (λ z. Block l.height z l.trees l.rest) (sym k) blk.1),
+    )
 
 simple_statement : (sub : Statements) (b : ℕ) (ts : List Token) (s : Stated) → shallow (simple ts) ≡ Some s → StatementTo b ts s
 unfolding StatementTo simple

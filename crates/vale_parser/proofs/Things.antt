@@ -1,5 +1,5 @@
 -- Lists of things of one kind are lists of that kind.
-use Rattle.std.proofs.Common.{◌≡◌, ℕ, zero, suc, Bool, true, false, cond, List, [], ◌∷◌, ◌++◌, map, length, drop, Option, Some, None, refl, sym, ◌∙◌, ap, subst}
+use Rattle.std.proofs.Common.{◌≡◌, ℕ, zero, suc, Bool, true, false, cond, List, [], ◌∷◌, ◌++◌, map, length, drop, Option, Some, None, refl, sym, ◌∙◌, ap}
 use Rattle.std.specs.Prelude.{Result, Ok, Err}
 use Rattle.vale_syntax.specs.declared.token.Token.{Token}
 use Rattle.vale_syntax.specs.declared.mark.Mark.TheVariants as mark
@@ -7,7 +7,7 @@ use Rattle.vale_syntax.specs.declared.lookahead.Lookahead.{Lookahead}
 use Rattle.vale_syntax.specs.Peek.{peek}
 use Rattle.vale_parser.specs.declared.fault.PartFault.{PartFault}
 use Rattle.vale_parser.specs.declared.fault.PartFault.TheVariants.{NotAPart, NoMemory}
-use Rattle.vale_parser.specs.Parts.{bind, Parser, is_mark, expect, before, commas, separated, closed, many}
+use Rattle.vale_parser.specs.Parts.{bind, Parser, is_mark, before, commas, separated, closed, many}
 use Rattle.vale_parser.specs.Reads.{Gives}
 use Rattle.vale_parser.specs.Things.{Thing, tagged}
 use Rattle.vale_parser.proofs.Turns.{map_last}
@@ -32,9 +32,9 @@ unfolding commas as_things
 commas_tagged f item zero xs ts = refl
 commas_tagged f item (suc n) xs ts =
     choice f (is_mark mark.Comma (peek ts)) _ (Some (map f xs, ts)) _ (Some (xs, ts))
-        (step f (item (drop 1 ts)) (λ p. commas item n (xs ++ p.0 ∷ []) p.1) (λ p. commas (tagged f item) n (map f xs ++ p.0 ∷ []) p.1)
-            (λ p. ap (λ l. commas (tagged f item) n l p.1) (sym (map_last f xs p.0)) ∙ commas_tagged f item n (xs ++ p.0 ∷ []) p.1))
-        refl
+    (step f (item (drop 1 ts)) (λ p. commas item n (xs ++ p.0 ∷ []) p.1) (λ p. commas (tagged f item) n (map f xs ++ p.0 ∷ []) p.1)
+    (λ p. ap (λ l. commas (tagged f item) n l p.1) (sym (map_last f xs p.0)) ∙ commas_tagged f item n (xs ++ p.0 ∷ []) p.1))
+    refl
 
 pub separated_tagged : {A : Type 0} (f : A → Thing) (item : Parser A) (ts : List Token) → separated (tagged f item) ts ≡ as_things f (separated item ts)
 separated_tagged f item ts = step f (item ts) (λ p. commas item (length ts) (p.0 ∷ []) p.1) (λ p. commas (tagged f item) (length ts) (p.0 ∷ []) p.1) (λ p. commas_tagged f item (length ts) (p.0 ∷ []) p.1)
@@ -58,9 +58,9 @@ unfolding many as_things
 many_from f begins item zero xs ts = refl
 many_from f begins item (suc n) xs ts =
     choice f (begins (peek ts)) _ (Some (map f xs, ts)) _ (Some (xs, ts))
-        (step f (item ts) (λ p. many begins item n (xs ++ p.0 ∷ []) p.1) (λ p. many begins (tagged f item) n (map f xs ++ p.0 ∷ []) p.1)
-            (λ p. ap (λ l. many begins (tagged f item) n l p.1) (sym (map_last f xs p.0)) ∙ many_from f begins item n (xs ++ p.0 ∷ []) p.1))
-        refl
+    (step f (item ts) (λ p. many begins item n (xs ++ p.0 ∷ []) p.1) (λ p. many begins (tagged f item) n (map f xs ++ p.0 ∷ []) p.1)
+    (λ p. ap (λ l. many begins (tagged f item) n l p.1) (sym (map_last f xs p.0)) ∙ many_from f begins item n (xs ++ p.0 ∷ []) p.1))
+    refl
 
 pub many_tagged : {A : Type 0} (f : A → Thing) (begins : Lookahead → Bool) (item : Parser A) (n : ℕ) (ts : List Token) → many begins (tagged f item) n [] ts ≡ as_things f (many begins item n [] ts)
 many_tagged f begins item n ts = many_from f begins item n [] ts

@@ -1,11 +1,11 @@
 -- Whole sources.
 use Rattle.std.specs.Bool.{◌==◌}
-use Rattle.std.proofs.Common.{◌≡◌, ◌≤◌, false, suc, length, List, [], ◌∷◌, ◌++◌, Option, Some, None, refl, sym, ◌∙◌, ap, subst, arith}
+use Rattle.std.proofs.Common.{◌≡◌, false, length, List, [], ◌∷◌, ◌++◌, None, refl, sym, ◌∙◌, ap, subst, arith}
 use Rattle.vale_syntax.specs.declared.token.Token.{Token}
 use Rattle.vale_syntax.specs.Programs.{De}
 use Rattle.vale_syntax.specs.Declarations.{Declaration, AreDecls, no_decls, more_decls}
 use Rattle.vale_parser.specs.Productions.{declaration}
-use Rattle.vale_parser.specs.Sources.{Front, no_more, one_more, StopsAt}
+use Rattle.vale_parser.specs.Sources.{Front, no_more, one_more}
 use Rattle.vale_parser.proofs.Sound.{pair_of}
 use Rattle.vale_parser.proofs.FoundDeclarations.{declaration_found, declaration_shorter}
 

@@ -1,5 +1,5 @@
 -- The thing of each production that tokens begin with, found by looking ahead; `declarations_as_spelled` says that it is the one that they spell.
-use Rattle.std.specs.Prelude.{ℕ, zero, suc, max, Bool, true, false, not, ◌&&◌, nat_le, List, [], ◌∷◌, length, drop, Option, Some, None, if◌then◌else◌}
+use Rattle.std.specs.Prelude.{ℕ, zero, suc, max, Bool, true, false, ◌&&◌, List, [], length, drop, Option, Some, None, if◌then◌else◌}
 use Rattle.x64_syntax.specs.declared.keywords.Keyword.TheVariants as word
 use Rattle.vale_syntax.specs.declared.spot.Spot.{Spot}
 use Rattle.vale_syntax.specs.declared.token.Token.{Token}
@@ -10,21 +10,18 @@ use Rattle.vale_syntax.specs.declared.expr.Name.{Name}
 use Rattle.vale_syntax.specs.declared.statement.SortName.{SortName}
 use Rattle.vale_syntax.specs.declared.statement.SortName.TheVariants as sort
 use Rattle.vale_syntax.specs.declared.declaration.Kind.{Kind}
-use Rattle.vale_syntax.specs.declared.declaration.AbiName.{AbiName}
 use Rattle.vale_syntax.specs.declared.declaration.Direction.{Direction}
 use Rattle.vale_syntax.specs.declared.declaration.Direction.TheVariants as direction
 use Rattle.vale_syntax.specs.declared.declaration.Bind.{Bind}
 use Rattle.vale_syntax.specs.declared.declaration.Param.{Param}
 use Rattle.vale_syntax.specs.declared.declaration.Param.TheVariants as param
 use Rattle.vale_syntax.specs.declared.declaration.ReadPlace.{ReadPlace}
-use Rattle.vale_syntax.specs.Operators.{any}
 use Rattle.vale_syntax.specs.Peek.{peek, spot_of}
 use Rattle.vale_syntax.specs.Trees.{Ex}
-use Rattle.vale_syntax.specs.Expressions.{name_of, depth_limit}
-use Rattle.vale_syntax.specs.Parse.{parse}
-use Rattle.vale_syntax.specs.Programs.{Ar, Memory, Value, St, Sts, no_sts, more_sts, Arm, no_arm, arm, Call, Assert, Ghost, Assign, If, While, InlineIf, LSt, LSts, no_lsts, more_lsts, LArm, no_larm, larm, LCall, LAssert, LIf, Cl, Reads, Modifies, Requires, Ensures, Stack, Abi, LCl, LRequires, LEnsures, LDecreases, De, Procedure, Lemma, Function, Export}
+use Rattle.vale_syntax.specs.Expressions.{name_of}
+use Rattle.vale_syntax.specs.Programs.{Ar, Memory, Value, St, Sts, no_sts, Arm, no_arm, arm, Call, Assert, Ghost, Assign, If, While, InlineIf, LSt, LSts, no_lsts, LArm, no_larm, larm, LCall, LAssert, LIf, Cl, Reads, Modifies, Requires, Ensures, Stack, Abi, LCl, LRequires, LEnsures, LDecreases, De, Procedure, Lemma, Function, Export}
 use Rattle.vale_syntax.specs.Statements.{sort_at, sts_last, lsts_last, statement_limit}
-use Rattle.vale_syntax.specs.Declarations.{kind_at, abi_at, direction_by}
+use Rattle.vale_syntax.specs.Declarations.{kind_at, abi_at}
 use Rattle.expr_parser.specs.Reads.{expression}
 use Rattle.vale_parser.specs.Parts.{bind as and_then, Parser, is_mark, expect, before, separated, closed, many}
 

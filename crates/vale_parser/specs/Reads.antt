@@ -1,6 +1,5 @@
 -- What a function of the parser answered, held against what looking ahead gives.
-use Rattle.std.specs.Prelude.{◌≡◌, List, map, Option, Some, None, Result, Ok, Err}
-use Rattle.vale_syntax.specs.declared.token.Token.{Token}
+use Rattle.std.specs.Prelude.{◌≡◌, map, Option, Some, None, Result, Ok, Err}
 use Rattle.std.specs.Option.{option_map}
 use Rattle.vale_syntax.specs.Programs.{stmt_tree, sts, arm_of, lstmt_tree, lsts, larm_of}
 use Rattle.vale_parser.specs.declared.lemma_statements.LemmaStated.{LemmaStated}

@@ -1,6 +1,5 @@
 -- What there are lists of in the grammar, as one type, over which the loops are written.
-use Rattle.std.specs.Prelude.{List, ◌∷◌, map, Bool, Option, Some, None}
-use Rattle.vale_syntax.specs.declared.token.Token.{Token}
+use Rattle.std.specs.Prelude.{Some}
 use Rattle.vale_syntax.specs.declared.expr.Name.{Name}
 use Rattle.vale_syntax.specs.declared.declaration.Bind.{Bind}
 use Rattle.vale_syntax.specs.declared.declaration.Param.{Param}

@@ -21,13 +21,19 @@ use std::alloc::Global;
 use vale_syntax::{Arg, Expr, Mark, Name, Token, peek};
 
 /// Expressions, joined by commas, and the closing round bracket.
-pub(crate) fn expressions<'a>(alloc: Global, tokens: &'a [Token]) -> Result<Read<'a, Items<Expr>>, PartFault>
+pub(crate) fn expressions<'a>(
+    alloc: Global,
+    tokens: &'a [Token],
+) -> Result<Read<'a, Items<Expr>>, PartFault>
     ensures { Gives (λ r. (map tree r.part, r.rest.now)) result (closed expression tokens.now) }
 {
     closed(alloc, tokens)
 }
 
-fn some_expressions<'a>(alloc: Global, tokens: &'a [Token]) -> Result<Read<'a, Items<Expr>>, PartFault>
+fn some_expressions<'a>(
+    alloc: Global,
+    tokens: &'a [Token],
+) -> Result<Read<'a, Items<Expr>>, PartFault>
     ensures { Gives (λ r. (map tree r.part, r.rest.now)) result (separated expression tokens.now) }
 {
     separated(alloc, tokens)
@@ -102,7 +108,10 @@ impl Part for Arg {
 }
 
 /// Arguments, joined by commas, and the closing round bracket.
-pub(crate) fn arguments<'a>(alloc: Global, tokens: &'a [Token]) -> Result<Read<'a, Items<Arg>>, PartFault>
+pub(crate) fn arguments<'a>(
+    alloc: Global,
+    tokens: &'a [Token],
+) -> Result<Read<'a, Items<Arg>>, PartFault>
     ensures { Gives (λ r. (map arg_tree r.part, r.rest.now)) result (closed argument tokens.now) }
 {
     closed(alloc, tokens)
@@ -120,7 +129,10 @@ fn invariant<'a>(alloc: Global, tokens: &'a [Token]) -> Result<Read<'a, Expr>, P
 }
 
 /// The invariants of a loop.
-pub(crate) fn invariants<'a>(alloc: Global, tokens: &'a [Token]) -> Result<Read<'a, Items<Expr>>, PartFault>
+pub(crate) fn invariants<'a>(
+    alloc: Global,
+    tokens: &'a [Token],
+) -> Result<Read<'a, Items<Expr>>, PartFault>
     ensures { Gives (λ r. (map tree r.part, r.rest.now)) result (many is_invariant invariant_ (length tokens.now) [] tokens.now) }
 {
     let mut parts = Items::new(alloc);

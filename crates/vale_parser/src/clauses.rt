@@ -20,7 +20,10 @@ use vale_syntax::{Clause, Expr, LemmaClause, Lookahead, Mark, Spot, Token, peek}
 use x64_syntax::Keyword;
 
 /// Behind the first token, an expression and a semicolon.
-pub(crate) fn expression_end<'a>(alloc: Global, tokens: &'a [Token]) -> Result<Read<'a, Expr>, PartFault>
+pub(crate) fn expression_end<'a>(
+    alloc: Global,
+    tokens: &'a [Token],
+) -> Result<Read<'a, Expr>, PartFault>
     ensures { Gives (λ r. (tree r.part, r.rest.now)) result (expression_end tokens.now) }
 {
     let found = expression(alloc, after(tokens, 1))?;
@@ -177,7 +180,10 @@ impl Repeated for LemmaClause {
 }
 
 /// The clauses of a procedure.
-pub(crate) fn clauses<'a>(alloc: Global, tokens: &'a [Token]) -> Result<Read<'a, Items<Clause>>, PartFault>
+pub(crate) fn clauses<'a>(
+    alloc: Global,
+    tokens: &'a [Token],
+) -> Result<Read<'a, Items<Clause>>, PartFault>
     ensures { Gives (λ r. (map clause_tree r.part, r.rest.now)) result (many begins_clause clause (length tokens.now) [] tokens.now) }
 {
     many(alloc, tokens)

@@ -82,12 +82,23 @@ pub(crate) struct Header {
 }
 
 // The value of a function that isn't recursive.
-fn plain_at<'a>(alloc: Global, header: Header, tokens: &'a [Token]) -> Result<Read<'a, Decl>, PartFault>
+fn plain_at<'a>(
+    alloc: Global,
+    header: Header,
+    tokens: &'a [Token],
+) -> Result<Read<'a, Decl>, PartFault>
     ensures { Gives (λ r. (decl_tree r.part, r.rest.now)) result (plain_at (header_view header) tokens.now) }
 {
     let value = expression_end(alloc, tokens)?;
     Ok(Read {
-        part: Decl::Function(header.spot, header.name, header.binds, header.sort, None, value.part),
+        part: Decl::Function(
+            header.spot,
+            header.name,
+            header.binds,
+            header.sort,
+            None,
+            value.part,
+        ),
         rest: value.rest,
     })
 }
@@ -113,7 +124,11 @@ fn step_part<'a>(alloc: Global, tokens: &'a [Token]) -> Result<Read<'a, Expr>, P
 }
 
 // The parts of a recursive function.
-fn parts_at<'a>(alloc: Global, header: Header, tokens: &'a [Token]) -> Result<Read<'a, Decl>, PartFault>
+fn parts_at<'a>(
+    alloc: Global,
+    header: Header,
+    tokens: &'a [Token],
+) -> Result<Read<'a, Decl>, PartFault>
     ensures { Gives (λ r. (decl_tree r.part, r.rest.now)) result (parts_at (header_view header) tokens.now) }
 {
     let zero = zero_part(alloc, tokens)?;
@@ -132,7 +147,11 @@ fn parts_at<'a>(alloc: Global, header: Header, tokens: &'a [Token]) -> Result<Re
     })
 }
 
-fn result_at<'a>(alloc: Global, header: Header, tokens: &'a [Token]) -> Result<Read<'a, Decl>, PartFault>
+fn result_at<'a>(
+    alloc: Global,
+    header: Header,
+    tokens: &'a [Token],
+) -> Result<Read<'a, Decl>, PartFault>
     ensures { Gives (λ r. (decl_tree r.part, r.rest.now)) result (result_at (header_view header) tokens.now) }
 {
     match peek(tokens) {
@@ -174,7 +193,10 @@ fn export<'a>(alloc: Global, tokens: &'a [Token]) -> Result<Read<'a, Decl>, Part
 
 /// The declaration at the front.
 #[tactic(auto, unfolding(crate::specs::Productions::declaration))]
-pub(crate) fn declaration<'a>(alloc: Global, tokens: &'a [Token]) -> Result<Read<'a, Decl>, PartFault>
+pub(crate) fn declaration<'a>(
+    alloc: Global,
+    tokens: &'a [Token],
+) -> Result<Read<'a, Decl>, PartFault>
     ensures { Gives (λ r. (decl_tree r.part, r.rest.now)) result (declaration tokens.now) }
 {
     match peek(tokens) {

@@ -76,7 +76,10 @@ pub(crate) fn name<'a>(alloc: Global, tokens: &'a [Token]) -> Result<Read<'a, Na
 }
 
 /// An expression.
-pub(crate) fn expression<'a>(alloc: Global, tokens: &'a [Token]) -> Result<Read<'a, Expr>, PartFault>
+pub(crate) fn expression<'a>(
+    alloc: Global,
+    tokens: &'a [Token],
+) -> Result<Read<'a, Expr>, PartFault>
     ensures { Gives (λ r. (tree r.part, r.rest.now)) result (expression tokens.now) }
 {
     match read_front(alloc, tokens) {

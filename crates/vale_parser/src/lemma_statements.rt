@@ -79,7 +79,11 @@ fn statement<'a>(alloc: Global, tokens: &'a [Token], left: u8) -> Result<LemmaSt
 }
 
 #[cycle(statement)]
-fn statement_of<'a>(alloc: Global, tokens: &'a [Token], below: u8) -> Result<LemmaStated<'a>, PartFault>
+fn statement_of<'a>(
+    alloc: Global,
+    tokens: &'a [Token],
+    below: u8,
+) -> Result<LemmaStated<'a>, PartFault>
     requires { below < 255 }
     ensures found { Gives lstated_view result (lstatement_by (lstatement below) (peek tokens.now) tokens.now) }
     ensures shallow { IfOk result (λ s. s.height ≤ suc below) }
@@ -125,7 +129,11 @@ fn arms<'a>(alloc: Global, tokens: &'a [Token], below: u8) -> Result<LemmaBranch
 }
 
 #[cycle(statement)]
-fn second_arm<'a>(alloc: Global, tokens: &'a [Token], below: u8) -> Result<LemmaArmed<'a>, PartFault>
+fn second_arm<'a>(
+    alloc: Global,
+    tokens: &'a [Token],
+    below: u8,
+) -> Result<LemmaArmed<'a>, PartFault>
     ensures found { Gives larmed_view result (lelse_by (lstatement below) tokens.now) }
     ensures shallow { IfOk result (λ a. a.height ≤ below) }
 {
@@ -147,7 +155,11 @@ fn second_arm<'a>(alloc: Global, tokens: &'a [Token], below: u8) -> Result<Lemma
 
 /// Statements in braces, with a depth of at most `below`.
 #[cycle(statement)]
-pub(crate) fn block<'a>(alloc: Global, tokens: &'a [Token], below: u8) -> Result<LemmaBodied<'a>, PartFault>
+pub(crate) fn block<'a>(
+    alloc: Global,
+    tokens: &'a [Token],
+    below: u8,
+) -> Result<LemmaBodied<'a>, PartFault>
     ensures found { Gives lbodied_view result (lblock (lstatement below) tokens.now) }
     ensures shallow { IfOk result (λ b. b.height ≤ below) }
 {

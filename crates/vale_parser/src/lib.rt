@@ -11,6 +11,8 @@ mod parameters;
 mod part;
 mod sources;
 mod statements;
+#[cfg(test)]
+mod tests;
 mod words;
 
 pub use sources::{ParseFault, declared_once, read_decls};

@@ -13,7 +13,9 @@ use crate::words::{is_secret, kind_behind, sort_behind};
 use expr_parser::{after, spot_of};
 use sqlite_items::Items;
 use std::alloc::Global;
-use vale_syntax::{Bind, Direction, Lookahead, Name, Param, ReadPlace, SortName, Spot, Token, peek};
+use vale_syntax::{
+    Bind, Direction, Lookahead, Name, Param, ReadPlace, SortName, Spot, Token, peek,
+};
 use x64_syntax::Keyword;
 
 #[tactic(auto, unfolding(crate::specs::Productions::bind))]
@@ -90,7 +92,11 @@ fn out_at<'a>(alloc: Global, spot: Spot, tokens: &'a [Token]) -> Result<Read<'a,
     })
 }
 
-fn inline_at<'a>(alloc: Global, spot: Spot, tokens: &'a [Token]) -> Result<Read<'a, Param>, PartFault>
+fn inline_at<'a>(
+    alloc: Global,
+    spot: Spot,
+    tokens: &'a [Token],
+) -> Result<Read<'a, Param>, PartFault>
     ensures { Gives (λ r. (r.part, r.rest.now)) result (inline_at spot tokens.now) }
 {
     let name = name(alloc, tokens)?;
@@ -104,7 +110,11 @@ fn inline_at<'a>(alloc: Global, spot: Spot, tokens: &'a [Token]) -> Result<Read<
     }
 }
 
-fn ghost_at<'a>(alloc: Global, spot: Spot, tokens: &'a [Token]) -> Result<Read<'a, Param>, PartFault>
+fn ghost_at<'a>(
+    alloc: Global,
+    spot: Spot,
+    tokens: &'a [Token],
+) -> Result<Read<'a, Param>, PartFault>
     ensures { Gives (λ r. (r.part, r.rest.now)) result (ghost_at spot tokens.now) }
 {
     let name = name(alloc, tokens)?;
@@ -142,7 +152,13 @@ fn guarded<'a>(
     let rest = after(tokens, 1);
     match peek(tokens) {
         Lookahead::Keyword(Keyword::In) => operand_at(alloc, spot, is_secret, Direction::In, rest),
-        Lookahead::Keyword(Keyword::InOut) => operand_at(alloc, spot, is_secret, Direction::InOut, rest),
+        Lookahead::Keyword(Keyword::InOut) => operand_at(
+            alloc,
+            spot,
+            is_secret,
+            Direction::InOut,
+            rest,
+        ),
         Lookahead::Keyword(Keyword::Block) => block_at(alloc, spot, is_secret, rest),
         _ => Err(PartFault::NotAPart),
     }
@@ -194,28 +210,40 @@ impl Part for Param {
 }
 
 /// Names with sorts, joined by commas, and the closing round bracket.
-pub(crate) fn binds<'a>(alloc: Global, tokens: &'a [Token]) -> Result<Read<'a, Items<Bind>>, PartFault>
+pub(crate) fn binds<'a>(
+    alloc: Global,
+    tokens: &'a [Token],
+) -> Result<Read<'a, Items<Bind>>, PartFault>
     ensures { Gives (λ r. (r.part, r.rest.now)) result (closed bind tokens.now) }
 {
     closed(alloc, tokens)
 }
 
 /// Parameters, joined by commas, and the closing round bracket.
-pub(crate) fn parameters<'a>(alloc: Global, tokens: &'a [Token]) -> Result<Read<'a, Items<Param>>, PartFault>
+pub(crate) fn parameters<'a>(
+    alloc: Global,
+    tokens: &'a [Token],
+) -> Result<Read<'a, Items<Param>>, PartFault>
     ensures { Gives (λ r. (r.part, r.rest.now)) result (closed parameter tokens.now) }
 {
     closed(alloc, tokens)
 }
 
 /// One or more places, each secret or not, joined by commas.
-pub(crate) fn places<'a>(alloc: Global, tokens: &'a [Token]) -> Result<Read<'a, Items<ReadPlace>>, PartFault>
+pub(crate) fn places<'a>(
+    alloc: Global,
+    tokens: &'a [Token],
+) -> Result<Read<'a, Items<ReadPlace>>, PartFault>
     ensures { Gives (λ r. (r.part, r.rest.now)) result (separated place tokens.now) }
 {
     separated(alloc, tokens)
 }
 
 /// One or more names, joined by commas.
-pub(crate) fn names<'a>(alloc: Global, tokens: &'a [Token]) -> Result<Read<'a, Items<Name>>, PartFault>
+pub(crate) fn names<'a>(
+    alloc: Global,
+    tokens: &'a [Token],
+) -> Result<Read<'a, Items<Name>>, PartFault>
     ensures { Gives (λ r. (r.part, r.rest.now)) result (separated name tokens.now) }
 {
     separated(alloc, tokens)

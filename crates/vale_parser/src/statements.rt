@@ -200,7 +200,12 @@ fn statement_of<'a>(alloc: Global, tokens: &'a [Token], below: u8) -> Result<Sta
 
 // What stands behind the test of a loop.
 #[cycle(statement)]
-fn loop_at<'a>(alloc: Global, spot: Spot, test: Read<'a, Expr>, below: u8) -> Result<Stated<'a>, PartFault>
+fn loop_at<'a>(
+    alloc: Global,
+    spot: Spot,
+    test: Read<'a, Expr>,
+    below: u8,
+) -> Result<Stated<'a>, PartFault>
     requires { below < 255 }
     ensures found { Gives stated_view result (loop_at (statement below) spot (tree test.entry.part, test.entry.rest.now)) }
     ensures shallow { IfOk result (λ s. s.height ≤ suc below) }
@@ -254,7 +259,11 @@ fn second_arm<'a>(alloc: Global, tokens: &'a [Token], below: u8) -> Result<Armed
 
 /// Statements in braces, with a depth of at most `below`.
 #[cycle(statement)]
-pub(crate) fn block<'a>(alloc: Global, tokens: &'a [Token], below: u8) -> Result<Bodied<'a>, PartFault>
+pub(crate) fn block<'a>(
+    alloc: Global,
+    tokens: &'a [Token],
+    below: u8,
+) -> Result<Bodied<'a>, PartFault>
     ensures found { Gives bodied_view result (block (statement below) tokens.now) }
     ensures shallow { IfOk result (λ b. b.height ≤ below) }
 {

@@ -1,4 +1,4 @@
-use Rattle.std.proofs.Common.{◌≡◌, List, [], map, length, ◌-◌}
+use Rattle.std.proofs.Common.{◌≡◌, [], map, length, ◌-◌}
 use Rattle.vale_syntax.specs.Trees.{tree}
 use Rattle.vale_parser.specs.Parts.{many}
 use Rattle.vale_parser.specs.Productions.{is_invariant, invariant_}

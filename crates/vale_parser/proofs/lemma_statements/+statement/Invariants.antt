@@ -1,4 +1,4 @@
-use Rattle.std.proofs.Common.{◌≡◌, ◌≤◌, ℕ, ◌+◌, ◌-◌, ◌*◌, map, length}
+use Rattle.std.proofs.Common.{◌≡◌, ◌≤◌, ◌+◌, ◌-◌, ◌*◌, map, length}
 use Rattle.vale_syntax.specs.Programs.{lstmt_tree, lsts, no_lsts}
 use Rattle.vale_parser.specs.Productions.{lstatement, lbody}
 use Rattle.vale_parser.proofs.lemma_statements.+statement.Given as goal
@@ -24,6 +24,6 @@ decreases-body l = 16 * l.below + 1
 -- what the turns that are left give is what all give
 abbrev pub invariant-body-loop-turn : goal.invariant-body-loop-turn
 invariant-body-loop-turn l = record {
-    found : lbody (lstatement l.below) (length l.tokens - l._turn) (lsts (map lstmt_tree l.trees)) l.height l.rest ≡ lbody (lstatement l.below) (length l.tokens) no_lsts 0 l.tokens;
-    shallow : l.height ≤ l.below;
-  }
+  found : lbody (lstatement l.below) (length l.tokens - l._turn) (lsts (map lstmt_tree l.trees)) l.height l.rest ≡ lbody (lstatement l.below) (length l.tokens) no_lsts 0 l.tokens;
+  shallow : l.height ≤ l.below;
+}

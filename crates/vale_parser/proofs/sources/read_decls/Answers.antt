@@ -1,10 +1,8 @@
-use Rattle.std.proofs.Common.{◌≡◌, ◌∷◌, ◌++◌, [], map, sym, ◌∙◌, ap, subst, arith, Some, None, List, length}
+use Rattle.std.proofs.Common.{map, sym, ◌∙◌}
 use Rattle.std.proofs.lemmas.Bool.{eqb-true}
-use Rattle.vale_syntax.specs.declared.token.Token.{Token}
-use Rattle.vale_syntax.specs.Programs.{De, decl_tree}
-use Rattle.vale_syntax.specs.Declarations.{Declaration}
-use Rattle.vale_parser.specs.Sources.{Front, no_more, StopsAt}
-use Rattle.vale_parser.proofs.FoundDeclarations.{declaration_found, declaration_shorter}
+use Rattle.vale_syntax.specs.Programs.{decl_tree}
+use Rattle.vale_parser.specs.Sources.{no_more}
+use Rattle.vale_parser.proofs.FoundDeclarations.{declaration_shorter}
 use Rattle.vale_parser.proofs.SoundDeclarations.{declaration_sound}
 use Rattle.vale_parser.proofs.Turns.{map_last}
 use Rattle.vale_parser.proofs.Whole.{front_last, front_all, no_length, none_here, some_left}
@@ -22,13 +20,14 @@ loop-rest-preserved c = rw (c.in_ok-push-in-Ok.ensures.items, map_last decl_tree
 pub returns-in-Err-NotAPart-clause-not_a_decl : goal.returns-in-Err-NotAPart-clause-not_a_decl
 returns-in-Err-NotAPart-clause-not_a_decl c = λ first e.
     let gone = rw c.in-Err-NotAPart.field-0-is at c.in-Err-NotAPart.ensures in
-    record
-        { decls = map decl_tree c.loop-rest.decls.items
-        ; rest = c.loop-rest.rest.now
-        ; front = c.loop-rest.invariant
-        ; some = some_left c.loop-rest.rest.now (sym c.is_empty.ensures ∙ c.loop-rest-test.true)
-        ; here = sym c.spot_of.ensures ∙ cc e
-        ; none = none_here c.loop-rest.rest.now gone }
+    record {
+      decls = map decl_tree c.loop-rest.decls.items;
+      rest = c.loop-rest.rest.now;
+      front = c.loop-rest.invariant;
+      some = some_left c.loop-rest.rest.now (sym c.is_empty.ensures ∙ c.loop-rest-test.true);
+      here = sym c.spot_of.ensures ∙ cc e;
+      none = none_here c.loop-rest.rest.now gone;
+    }
 
 pub returns-clause-ok : goal.returns-clause-ok
 returns-clause-ok c = front_all c.loop-rest.rest.now c.loop-rest.invariant (no_length _ (eqb-true _ _ (sym c.is_empty.ensures ∙ c.loop-rest-test.false)))

@@ -1,4 +1,4 @@
-use Rattle.std.proofs.Common.{◌≡◌, ◌≤◌, ℕ, ◌+◌, ◌-◌, ◌*◌, map, length}
+use Rattle.std.proofs.Common.{◌≡◌, ◌≤◌, ◌+◌, ◌-◌, ◌*◌, map, length}
 use Rattle.vale_syntax.specs.Programs.{stmt_tree, sts, no_sts}
 use Rattle.vale_parser.specs.Productions.{statement, body}
 use Rattle.vale_parser.proofs.statements.+statement.Given as goal
@@ -27,6 +27,6 @@ decreases-body l = 16 * l.below + 1
 -- what the turns that are left give is what all give
 abbrev pub invariant-body-loop-turn : goal.invariant-body-loop-turn
 invariant-body-loop-turn l = record {
-    found : body (statement l.below) (length l.tokens - l._turn) (sts (map stmt_tree l.trees)) l.height l.rest ≡ body (statement l.below) (length l.tokens) no_sts 0 l.tokens;
-    shallow : l.height ≤ l.below;
-  }
+  found : body (statement l.below) (length l.tokens - l._turn) (sts (map stmt_tree l.trees)) l.height l.rest ≡ body (statement l.below) (length l.tokens) no_sts 0 l.tokens;
+  shallow : l.height ≤ l.below;
+}
