@@ -35,10 +35,7 @@ pub fn read_expr(alloc: Global, tokens: &[Token]) -> Result<Expr, ExprFault>
 /// The expression that the tokens begin with, and the tokens behind it: the longest that no operator, bracket or index
 /// goes on.
 #[tactic(auto, unfolding(crate::specs::Reads::expression))]
-pub fn read_front<'a>(
-    alloc: Global,
-    tokens: &'a [Token],
-) -> Result<(Expr, &'a [Token]), ExprFault>
+pub fn read_front<'a>(alloc: Global, tokens: &'a [Token]) -> Result<(Expr, &'a [Token]), ExprFault>
     ensures { Gives (λ p. (tree p.0, p.1.now)) result (expression tokens.now) }
 {
     let found = part(alloc, tokens, ANY, DEPTH_LIMIT)?;
