@@ -42,13 +42,13 @@ pub fn read_front<'a>(alloc: Global, tokens: &'a [Token]) -> Result<(Expr, &'a [
     Ok((found.tree, found.rest))
 }
 
-#[tactic(auto, unfolding(crate::specs::Looks::read))]
+#[tactic(auto, unfolding(crate::specs::Looks::read, crate::specs::Reads::expression))]
 fn whole(alloc: Global, tokens: &[Token]) -> Result<Expr, ExprFault>
     ensures { Gives tree result (read tokens.now) }
 {
-    let found = part(alloc, tokens, ANY, DEPTH_LIMIT)?;
-    match found.rest {
-        [] => Ok(found.tree),
+    let (found, rest) = read_front(alloc, tokens)?;
+    match rest {
+        [] => Ok(found),
         _ => Err(ExprFault::NotAnExpr),
     }
 }
