@@ -1,0 +1,12 @@
+//! The sources that are built so far: procedures without branches.
+#![tactic(auto)]
+
+mod clauses;
+mod fault;
+mod form;
+mod sources;
+mod statements;
+
+pub use fault::FormFault;
+pub use form::{Promise, StraightLine};
+pub use sources::straight_line;
