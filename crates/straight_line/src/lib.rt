@@ -6,6 +6,8 @@ mod fault;
 mod form;
 mod sources;
 mod statements;
+#[cfg(test)]
+mod tests;
 
 pub use fault::FormFault;
 pub use form::{Promise, StraightLine};
