@@ -54,7 +54,7 @@ unfoldable pub reads_from : List GeneralReg → List ReadPlace → Option (List 
 reads_from before [] = Some before
 reads_from before (p ∷ ps) = readable before p >>= λ r. reads_from (before ++ r ∷ []) ps
 
--- the same registers are modified, in their order, and the flags
+-- the names are those of the registers, in their order, and then `flags`
 unfoldable pub modified : List GeneralReg → List AName → Bool
 modified [] [] = false
 modified [] (n ∷ []) = bytes_eq n.text (codes "flags")
@@ -136,14 +136,14 @@ clauses_of (Reads s ps ∷ Modifies t ns ∷ Ensures u x ∷ []) =
     reads_from [] ps >>= λ rs. if modified rs ns then (promise rs x >>= λ e. Some (rs, e)) else None
 clauses_of _ = None
 
--- names that may be given, of which the last is the first
+-- the procedure's name may be given and the export's exported, and it is the procedure that is exported
 abbrev pub are_names : List ℕ → List ℕ → List ℕ → Bool
 are_names name export procedure = not (is_reserved_name name) && is_export_text export && bytes_eq procedure name
 
 abbrev pub procedure_ : List ℕ → List Cl → List St → List ℕ → Option StraightLine
 procedure_ name cs xs export = clauses_of cs >>= λ c. body c.0 xs >>= λ is. Some record { name = name; registers = c.0; instructions = is; promise = c.1; export = export }
 
--- one procedure without parameters, and its export
+-- a procedure without parameters, and its export
 abbrev pub pair_of : De → De → Option StraightLine
 pair_of (Procedure s n ps cs xs) (Export t x p args) = if (length ps == 0) && (length args == 0) && are_names n.text x.text p.text then procedure_ n.text cs (listed_sts xs) x.text else None
 pair_of d e = None
