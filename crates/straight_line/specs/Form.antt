@@ -14,6 +14,7 @@ use Rattle.x64_syntax.specs.Words.{is_reserved_name, is_export_text}
 use Rattle.vale_syntax.specs.declared.mark.BinaryOp.TheVariants as op
 use Rattle.vale_syntax.specs.declared.expr.Name.{Name as AName}
 use Rattle.vale_syntax.specs.declared.declaration.ReadPlace.{ReadPlace}
+use Rattle.vale_syntax.specs.Parse.{◌>>=◌}
 use Rattle.vale_syntax.specs.Trees.{Ex, Exs, Int, Word, Name, Call as CallOf, Binary, none, more}
 use Rattle.vale_syntax.specs.Programs.{Ar, Value, Cl, St, Sts, Call, no_sts, more_sts, Reads, Modifies, Ensures, De, Procedure, Export}
 use Rattle.straight_line.specs.declared.fault.FormFault.{FormFault}
@@ -21,11 +22,6 @@ use Rattle.straight_line.specs.declared.fault.FormFault.TheVariants.{NotOfForm, 
 use Rattle.straight_line.specs.declared.form.Promise.{Promise}
 use Rattle.straight_line.specs.declared.form.Promise.TheVariants.{Constant, Old, Sum}
 use Rattle.straight_line.specs.declared.form.StraightLine.{StraightLine}
-
-infixl 10 ◌>>=◌
-abbrev pub ◌>>=◌ : {A B : Type 0} → Option A → (A → Option B) → Option B
-None >>= f = None
-(Some x) >>= f = f x
 
 -- a general register but the stack pointer
 abbrev pub but_rsp : Option GeneralReg → Option GeneralReg
@@ -88,23 +84,23 @@ abbrev pub promise : List GeneralReg → Ex → Option Promise
 promise rs (Binary s op.Eq x y) = named rs x >>= λ r. value rs r y
 promise rs _ = None
 
--- constants: of 32 bits with a sign, or of 64 bits with or without one
-abbrev pub short : ℤ → Option ℤ
-short z = if int_le (negsuc (2 ^ 31 - 1)) z && int_lt z (pos (2 ^ 31)) then Some z else None
+-- a constant from a range, as the number with a sign that is the same word
+abbrev pub signed_word : ℤ → ℤ
+signed_word z = if int_lt z (pos (2 ^ 63)) then z else z -ℤ pos (2 ^ 64)
 
-abbrev pub wide : ℤ → Option ℤ
-wide z = if int_le (negsuc (2 ^ 63 - 1)) z && int_lt z (pos (2 ^ 64)) then Some (if int_lt z (pos (2 ^ 63)) then z else z -ℤ pos (2 ^ 64)) else None
+abbrev pub constant : ℤ → ℤ → ℤ → Option ℤ
+constant lowest end z = if int_le lowest z && int_lt z end then Some (signed_word z) else None
 
--- the source of an instruction that takes such constants
-abbrev pub source : List GeneralReg → (ℤ → Option ℤ) → Ex → Option Opr
-source rs constant (Int s z) = constant z >>= λ i. Some (Imm i)
-source rs constant x = named rs x >>= λ r. Some (R r)
+-- the source of an instruction that takes the constants of a range
+abbrev pub source : List GeneralReg → ℤ → ℤ → Ex → Option Opr
+source rs lowest end (Int s z) = constant lowest end z >>= λ i. Some (Imm i)
+source rs lowest end x = named rs x >>= λ r. Some (R r)
 
 -- `Mov64(A, B)`, `Add64(A, B)`
 abbrev pub instruction : List GeneralReg → List ℕ → GeneralReg → Ex → Option Ins
 instruction rs name d x =
-    if bytes_eq name (codes "Mov64") then (source rs wide x >>= λ s. Some (Mov d s))
-    else if bytes_eq name (codes "Add64") then (source rs short x >>= λ s. Some (Alu alu.Add d s))
+    if bytes_eq name (codes "Mov64") then (source rs (negsuc (2 ^ 63 - 1)) (pos (2 ^ 64)) x >>= λ s. Some (Mov d s))
+    else if bytes_eq name (codes "Add64") then (source rs (negsuc (2 ^ 31 - 1)) (pos (2 ^ 31)) x >>= λ s. Some (Alu alu.Add d s))
     else None
 
 abbrev pub operands : List GeneralReg → List ℕ → List Ar → Option Ins

@@ -1,9 +1,9 @@
 // Statements of the form.
 
-ghost use Rattle.std.specs.Prelude.{◌≡◌, [], map};
+ghost use Rattle.std.specs.Prelude.{◌≡◌, ◌^◌, ◌-◌, ◌≤ℤ◌, pos, negsuc, [], map};
 ghost use Rattle.vale_syntax.specs.Trees.{tree};
 ghost use Rattle.vale_syntax.specs.Programs.{arg_tree, stmt_tree};
-ghost use Rattle.straight_line.specs.Form.{short, wide, source, instruction, operands, statement, statements_from, Gives};
+ghost use Rattle.straight_line.specs.Form.{constant, source, instruction, operands, statement, statements_from, Gives};
 
 use crate::clauses::named;
 use crate::fault::FormFault;
@@ -12,46 +12,30 @@ use std::alloc::Global;
 use vale_syntax::{Arg, Expr, Stmt};
 use x64_syntax::{AluOp, Ins, Opr, Reg};
 
-// A constant of 32 bits with a sign.
-fn short(value: i128) -> Option<i64>
-    ensures { result ≡ short value }
+// A constant from `lowest` on and below `end`, as the number with a sign that is the same word.
+fn constant(lowest: i128, end: i128, value: i128) -> Option<i64>
+    requires lowest { negsuc (2 ^ 63 - 1) ≤ℤ lowest }
+    requires end { end ≤ℤ pos (2 ^ 64) }
+    ensures { result ≡ constant lowest end value }
 {
-    if -2147483648 <= value && value < 2147483648 {
-        Some(value as i64)
-    } else {
-        None
-    }
-}
-
-// A constant of 64 bits, with a sign or without, modulo 2^64.
-fn wide(value: i128) -> Option<i64>
-    ensures { result ≡ wide value }
-{
-    if -9223372036854775808 <= value && value < 18446744073709551616 {
-        if value < 9223372036854775808 {
+    if lowest <= value && value < end {
+        if value < 1 << 63 {
             Some(value as i64)
         } else {
-            Some((value - 18446744073709551616) as i64)
+            Some((value - (1 << 64)) as i64)
         }
     } else {
         None
     }
 }
 
-fn copied(regs: &[Reg], e: &Expr) -> Option<Opr>
-    ensures { result ≡ source regs.now wide (tree e.now) }
+fn source(regs: &[Reg], lowest: i128, end: i128, e: &Expr) -> Option<Opr>
+    requires lowest { negsuc (2 ^ 63 - 1) ≤ℤ lowest }
+    requires end { end ≤ℤ pos (2 ^ 64) }
+    ensures { result ≡ source regs.now lowest end (tree e.now) }
 {
     match e {
-        Expr::Int(_, value) => Some(Opr::Imm(wide(*value)?)),
-        _ => Some(Opr::R(named(regs, e)?)),
-    }
-}
-
-fn added(regs: &[Reg], e: &Expr) -> Option<Opr>
-    ensures { result ≡ source regs.now short (tree e.now) }
-{
-    match e {
-        Expr::Int(_, value) => Some(Opr::Imm(short(*value)?)),
+        Expr::Int(_, value) => Some(Opr::Imm(constant(lowest, end, *value)?)),
         _ => Some(Opr::R(named(regs, e)?)),
     }
 }
@@ -60,16 +44,15 @@ fn instruction(regs: &[Reg], name: &[u8], d: Reg, e: &Expr) -> Option<Ins>
     ensures { result ≡ instruction regs.now name.now d (tree e.now) }
 {
     if name == b"Mov64".as_slice() {
-        return Some(Ins::Mov {
-            d,
-            s: copied(regs, e)?,
-        });
+        let s = source(regs, -(1 << 63), 1 << 64, e)?;
+        return Some(Ins::Mov { d, s });
     }
     if name == b"Add64".as_slice() {
+        let s = source(regs, -(1 << 31), 1 << 31, e)?;
         Some(Ins::Alu {
             op: AluOp::Add,
             d,
-            s: added(regs, e)?,
+            s,
         })
     } else {
         None
