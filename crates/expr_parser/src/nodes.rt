@@ -51,7 +51,7 @@ pub(crate) fn index<'a>(
             Boxed::new(alloc, array.tree)?,
             Boxed::new(alloc, at.tree)?,
         ),
-        height: higher(array.height, at.height) + 1,
+        height: array.height.max(at.height) + 1,
         rest,
     })
 }
@@ -74,16 +74,9 @@ pub(crate) fn binary<'a>(
             Boxed::new(alloc, left.tree)?,
             Boxed::new(alloc, right.tree)?,
         ),
-        height: higher(left.height, right.height) + 1,
+        height: left.height.max(right.height) + 1,
         rest: right.rest,
     })
-}
-
-/// The greater of two depths.
-pub(crate) fn higher(a: u8, b: u8) -> u8
-    ensures { result ≡ max a b }
-{
-    if a < b { b } else { a }
 }
 
 /// Expressions, the depth of the deepest, and the tokens behind them.
@@ -121,7 +114,7 @@ pub(crate) fn with_last<'a>(
     trees.push(last.tree)?;
     Ok(ParsedList {
         trees,
-        height: higher(height, last.height),
+        height: height.max(last.height),
         rest: last.rest,
     })
 }

@@ -18,6 +18,7 @@ use Rattle.vale_syntax.proofs.Grows.{chain_grows, indexed_grows}
 use Rattle.expr_parser.specs.Reads.{expression}
 use Rattle.vale_parser.specs.Parts.{bind as and_then, is_mark, expect, before, separated}
 use Rattle.vale_parser.specs.Productions.{is_name, memory_at, value_at, argument_by, argument}
+use Rattle.vale_parser.proofs.Sound.{is_name_is}
 use Rattle.vale_parser.proofs.Parts.{bound, peek_is, expect_found, separated_found, separated_short}
 use Rattle.vale_parser.proofs.Found.{dd, Ends, expression_found, expression_short}
 
@@ -95,10 +96,6 @@ Follows f = (Ends f) × (is_mark mark.At f ≡ false) × (is_mark mark.SquareOpe
 
 value_found : (ts : List Token) (x : Ex) (rest : List Token) → Expression ts x rest → Ends (peek rest) → value_at ts ≡ Some (Value x, rest)
 value_found ts x rest e f = bound (expression ts) (x, rest) (λ x. Some (Value x.0, x.1)) _ (expression_found ts x rest e f) refl
-
-is_name_is : (f : Lookahead) → is_name f ≡ true → f ≡ see.Name
-is_name_is see.Name h = refl
-is_name_is _ h = absurd (false≢true h)
 
 pub argument_found : (ts : List Token) (a : Ar) (rest : List Token) → Argument ts a rest → Follows (peek rest) → argument ts ≡ Some (a, rest)
 unfolding argument Follows Ends loose

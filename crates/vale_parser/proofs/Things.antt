@@ -1,6 +1,7 @@
 -- Lists of things of one kind are lists of that kind.
 use Rattle.std.proofs.Common.{◌≡◌, ℕ, zero, suc, Bool, true, false, cond, List, [], ◌∷◌, ◌++◌, map, length, drop, Option, Some, None, refl, sym, ◌∙◌, ap}
 use Rattle.std.specs.Prelude.{Result, Ok, Err}
+use Rattle.std.proofs.lemmas.List.{map-append, map-id}
 use Rattle.vale_syntax.specs.declared.token.Token.{Token}
 use Rattle.vale_syntax.specs.declared.mark.Mark.TheVariants as mark
 use Rattle.vale_syntax.specs.declared.lookahead.Lookahead.{Lookahead}
@@ -10,7 +11,6 @@ use Rattle.vale_parser.specs.declared.fault.PartFault.TheVariants.{NotAPart, NoM
 use Rattle.vale_parser.specs.Parts.{bind, Parser, is_mark, before, commas, separated, closed, many}
 use Rattle.vale_parser.specs.Reads.{Gives}
 use Rattle.vale_parser.specs.Things.{Thing, tagged}
-use Rattle.vale_parser.proofs.Turns.{map_last}
 
 -- a list that was found, as things
 unfoldable pub as_things : {A : Type 0} → (A → Thing) → Option (List A × List Token) → Option (List Thing × List Token)
@@ -33,7 +33,7 @@ commas_tagged f item zero xs ts = refl
 commas_tagged f item (suc n) xs ts =
     choice f (is_mark mark.Comma (peek ts)) _ (Some (map f xs, ts)) _ (Some (xs, ts))
     (step f (item (drop 1 ts)) (λ p. commas item n (xs ++ p.0 ∷ []) p.1) (λ p. commas (tagged f item) n (map f xs ++ p.0 ∷ []) p.1)
-    (λ p. ap (λ l. commas (tagged f item) n l p.1) (sym (map_last f xs p.0)) ∙ commas_tagged f item n (xs ++ p.0 ∷ []) p.1))
+    (λ p. ap (λ l. commas (tagged f item) n l p.1) (sym (map-append f xs (p.0 ∷ []))) ∙ commas_tagged f item n (xs ++ p.0 ∷ []) p.1))
     refl
 
 pub separated_tagged : {A : Type 0} (f : A → Thing) (item : Parser A) (ts : List Token) → separated (tagged f item) ts ≡ as_things f (separated item ts)
@@ -59,7 +59,7 @@ many_from f begins item zero xs ts = refl
 many_from f begins item (suc n) xs ts =
     choice f (begins (peek ts)) _ (Some (map f xs, ts)) _ (Some (xs, ts))
     (step f (item ts) (λ p. many begins item n (xs ++ p.0 ∷ []) p.1) (λ p. many begins (tagged f item) n (map f xs ++ p.0 ∷ []) p.1)
-    (λ p. ap (λ l. many begins (tagged f item) n l p.1) (sym (map_last f xs p.0)) ∙ many_from f begins item n (xs ++ p.0 ∷ []) p.1))
+    (λ p. ap (λ l. many begins (tagged f item) n l p.1) (sym (map-append f xs (p.0 ∷ []))) ∙ many_from f begins item n (xs ++ p.0 ∷ []) p.1))
     refl
 
 pub many_tagged : {A : Type 0} (f : A → Thing) (begins : Lookahead → Bool) (item : Parser A) (n : ℕ) (ts : List Token) → many begins (tagged f item) n [] ts ≡ as_things f (many begins item n [] ts)
@@ -74,10 +74,6 @@ back f h inj (x ∷ xs) (c ∷ cs) e = let p = heads _ _ _ _ e in ap (λ y. y �
   where
     heads : (s t : Thing) (ss us : List Thing) → s ∷ ss ≡ t ∷ us → (s ≡ t) × (ss ≡ us)
     heads s t ss us e = (cc, cc)
-
-map_same : {C : Type 0} (cs : List C) → map (λ c. c) cs ≡ cs
-map_same [] = refl
-map_same (c ∷ cs) = ap (λ l. c ∷ l) (map_same cs)
 
 -- what gives the things gives what they are
 pub untagged : {X A C : Type 0} (f : A → Thing) (h : C → A) (r : Result X PartFault) (parts : X → List C) (rest : X → List Token) (o : Option (List A × List Token)) (t : Option (List Thing × List Token))
@@ -96,6 +92,6 @@ untagged f h (Err NoMemory) parts rest o t inj e k = tt
 
 pub untagged_same : {X A : Type 0} (f : A → Thing) (r : Result X PartFault) (parts : X → List A) (rest : X → List Token) (o : Option (List A × List Token)) (t : Option (List Thing × List Token))
     → ((a b : A) → f a ≡ f b → a ≡ b) → t ≡ as_things f o → Gives (λ x. (map f (parts x), rest x)) r t → Gives (λ x. (parts x, rest x)) r o
-untagged_same f (Ok x) parts rest o t inj e k = untagged f (λ a. a) (Ok x) parts rest o t inj e k ∙ ap (λ l. Some (l, rest x)) (map_same (parts x))
+untagged_same f (Ok x) parts rest o t inj e k = untagged f (λ a. a) (Ok x) parts rest o t inj e k ∙ ap (λ l. Some (l, rest x)) (map-id (parts x))
 untagged_same f (Err NotAPart) parts rest o t inj e k = untagged f (λ a. a) (Err NotAPart) parts rest o t inj e k
 untagged_same f (Err NoMemory) parts rest o t inj e k = tt

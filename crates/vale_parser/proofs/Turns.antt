@@ -1,5 +1,5 @@
 -- One turn of a list.
-use Rattle.std.proofs.Common.{◌≡◌, ◌<◌, ◌+◌, ◌-◌, ℕ, suc, arith, Bool, true, false, cond, List, [], ◌∷◌, ◌++◌, map, drop, Option, Some, None, refl, ◌∙◌, ap}
+use Rattle.std.proofs.Common.{◌≡◌, ◌<◌, ◌+◌, ◌-◌, ℕ, suc, arith, Bool, true, false, cond, List, [], ◌∷◌, ◌++◌, drop, Option, Some, None, refl, ◌∙◌, ap}
 use Rattle.std.specs.Prelude.{Result, IsErrAnd}
 use Rattle.std.proofs.lemmas.Result.{err_from_is_err_and}
 use Rattle.vale_syntax.specs.declared.token.Token.{Token}
@@ -60,7 +60,3 @@ many_go_on begins item n m xs ts b x rest e p q h = many_turn begins item n m xs
 pub many_done : {A : Type 0} (begins : Lookahead → Bool) (item : Parser A) (n : ℕ) (xs : List A) (ts : List Token) → n ≡ 0 → many begins item n xs ts ≡ Some (xs, ts)
 unfolding many
 many_done begins item n xs ts e = ap (λ k. many begins item k xs ts) e
-
-pub map_last : {A B : Type 0} (f : A → B) (xs : List A) (y : A) → map f (xs ++ y ∷ []) ≡ map f xs ++ f y ∷ []
-map_last f [] y = refl
-map_last f (x ∷ xs) y = ap (λ l. f x ∷ l) (map_last f xs y)

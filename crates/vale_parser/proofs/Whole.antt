@@ -1,11 +1,13 @@
 -- Whole sources.
 use Rattle.std.specs.Bool.{◌==◌}
 use Rattle.std.proofs.Common.{◌≡◌, false, length, List, [], ◌∷◌, ◌++◌, None, refl, sym, ◌∙◌, ap, subst, arith}
+use Rattle.vale_syntax.specs.declared.spot.Spot.{Spot}
 use Rattle.vale_syntax.specs.declared.token.Token.{Token}
+use Rattle.vale_syntax.specs.Peek.{spot_of}
 use Rattle.vale_syntax.specs.Programs.{De}
 use Rattle.vale_syntax.specs.Declarations.{Declaration, AreDecls, no_decls, more_decls}
 use Rattle.vale_parser.specs.Productions.{declaration}
-use Rattle.vale_parser.specs.Sources.{Front, no_more, one_more}
+use Rattle.vale_parser.specs.Sources.{Front, no_more, one_more, StopsAt}
 use Rattle.vale_parser.proofs.Sound.{pair_of}
 use Rattle.vale_parser.proofs.FoundDeclarations.{declaration_found, declaration_shorter}
 
@@ -31,13 +33,35 @@ all ts xs ys (more_decls {rest = r} {x = x} {xs = us} d f) (more_decls {rest = q
     let p = one ts x y r q d e in
     ap (λ z. z ∷ us) p.0 ∙ ap (λ l. y ∷ l) (all q us vs (subst (λ l. AreDecls l us) p.1 f) g)
 
-pub no_length : (ts : List Token) → length ts ≡ 0 → ts ≡ []
-no_length [] e = refl
-no_length (x ∷ ts) e = absurd (omega (arith, e))
-
 pub none_here : (ts : List Token) → declaration ts ≡ None → (x : De) (rest : List Token) → Declaration ts x rest → ⊥
 none_here ts e x rest d = cc (sym e ∙ declaration_found ts x rest d)
 
-pub some_left : (ts : List Token) → (length ts == 0) ≡ false → ts ≡ [] → ⊥
-some_left [] e n = cc e
-some_left (x ∷ ts) e n = omega (arith, ap length n)
+pub not_empty : (ts : List Token) → (length ts == 0) ≡ false → ts ≡ [] → ⊥
+not_empty [] e n = cc e
+not_empty (x ∷ ts) e n = omega (arith, ap length n)
+
+-- no front of the tokens is a declaration
+abbrev Barren : List Token → Type 0
+Barren ts = (x : De) (rest : List Token) → Declaration ts x rest → ⊥
+
+same_rest : {ts r q : List Token} {xs ys : List De} → Front ts xs r → Front ts ys q → Barren r → Barren q → r ≡ q
+same_rest no_more no_more h k = refl
+same_rest no_more (one_more {mid = b} {x = y} e g) h k = absurd (h y b e)
+same_rest (one_more {mid = a} {x = x} d f) no_more h k = absurd (k x a d)
+same_rest (one_more {ts = ts} {mid = a} {rest = r} {x = x} {xs = us} d f) (one_more {mid = b} {x = y} e g) h k =
+    let p = one ts x y a b d e in
+    same_rest (subst (λ l. Front l us r) p.1 f) g h k
+
+pub place : (ts : List Token) (s t : Spot) → StopsAt ts s → StopsAt ts t → s ≡ t
+place ts s t h k = sym h.here ∙ ap spot_of (same_rest h.front k.front h.none k.none) ∙ k.here
+
+none_left : {ts q : List Token} {xs ys : List De} → AreDecls ts xs → Front ts ys q → Barren q → q ≡ []
+none_left no_decls no_more k = refl
+none_left no_decls (one_more {mid = b} {x = y} e g) k = absurd (nothing y b e)
+none_left (more_decls {rest = a} {x = x} d f) no_more k = absurd (k x a d)
+none_left (more_decls {ts = ts} {rest = a} {x = x} {xs = us} d f) (one_more {mid = b} {x = y} e g) k =
+    let p = one ts x y a b d e in
+    none_left (subst (λ l. AreDecls l us) p.1 f) g k
+
+pub either : (ts : List Token) (xs : List De) (s : Spot) → AreDecls ts xs → StopsAt ts s → ⊥
+either ts xs s h k = k.some (none_left h k.front k.none)

@@ -6,10 +6,7 @@ use Rattle.vale_syntax.specs.declared.mark.Mark.TheVariants as mark
 use Rattle.vale_syntax.specs.declared.lookahead.Lookahead.{Lookahead}
 use Rattle.vale_syntax.specs.declared.lookahead.Lookahead.TheVariants as see
 use Rattle.vale_syntax.specs.Peek.{peek}
-
-abbrev pub bind : {A B : Type 0} → Option A → (A → Option B) → Option B
-bind (Some x) f = f x
-bind None f = None
+pub use Rattle.vale_syntax.specs.Parse.{◌>>=◌ as bind}
 
 -- a thing at the front, and the tokens behind it
 abbrev pub Parser : Type 0 → Type 0

@@ -10,7 +10,7 @@ ghost use Rattle.vale_parser.specs.Productions.{memory_at, value_at, argument_by
 ghost use Rattle.vale_parser.specs.Reads.{Gives};
 ghost use Rattle.vale_parser.specs.Things.{Thing, AnArg, tagged};
 
-use crate::clauses::expression_end;
+use crate::clauses::asked;
 use crate::fault::PartFault;
 use crate::front::{Read, expect, expression, is_at};
 use crate::part::{Part, closed, separated};
@@ -121,11 +121,7 @@ pub(crate) fn arguments<'a>(
 fn invariant<'a>(alloc: Global, tokens: &'a [Token]) -> Result<Read<'a, Expr>, PartFault>
     ensures { Gives (λ r. (tree r.part, r.rest.now)) result (invariant_ tokens.now) }
 {
-    if is_invariant(peek(tokens)) {
-        expression_end(alloc, tokens)
-    } else {
-        Err(PartFault::NotAPart)
-    }
+    asked(alloc, is_invariant(peek(tokens)), tokens)
 }
 
 /// The invariants of a loop.

@@ -4,7 +4,7 @@ ghost use Rattle.std.specs.Prelude.{◌≡◌, [], length, map};
 ghost use Rattle.vale_syntax.specs.Trees.{tree};
 ghost use Rattle.vale_syntax.specs.Programs.{clause_tree, lclause_tree};
 ghost use Rattle.vale_parser.specs.Parts.{many};
-ghost use Rattle.vale_parser.specs.Productions.{expression_end, abi_clause, reads_clause, modifies_clause, clause, begins_clause, lclause, begins_lclause};
+ghost use Rattle.vale_parser.specs.Productions.{asked, expression_end, abi_clause, reads_clause, modifies_clause, clause, begins_clause, lclause, begins_lclause};
 ghost use Rattle.vale_parser.specs.Reads.{Gives};
 ghost use Rattle.vale_parser.specs.Things.{Thing, AClause, ALClause, tagged};
 
@@ -31,6 +31,21 @@ pub(crate) fn expression_end<'a>(
         part: found.part,
         rest: expect(found.rest, Mark::Semicolon)?,
     })
+}
+
+/// An expression and a semicolon behind the first token, where that is the one that is asked for.
+pub(crate) fn asked<'a>(
+    alloc: Global,
+    is_asked: bool,
+    tokens: &'a [Token],
+) -> Result<Read<'a, Expr>, PartFault>
+    ensures { Gives (λ r. (tree r.part, r.rest.now)) result (asked is_asked (expression_end tokens.now)) }
+{
+    if is_asked {
+        expression_end(alloc, tokens)
+    } else {
+        Err(PartFault::NotAPart)
+    }
 }
 
 fn abi_clause(spot: Spot, tokens: &[Token]) -> Result<Read<'_, Clause>, PartFault>

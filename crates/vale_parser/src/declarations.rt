@@ -4,11 +4,11 @@ ghost use Rattle.std.specs.Prelude.{◌≡◌};
 ghost use Rattle.vale_syntax.specs.Peek.{peek};
 ghost use Rattle.vale_syntax.specs.Trees.{tree};
 ghost use Rattle.vale_syntax.specs.Programs.{decl_tree};
-ghost use Rattle.vale_parser.specs.Productions.{asked, is_zero, is_step, expression_end, head, procedure_, lemma_, function_, plain_at, parts_at, result_at, export_, declaration};
+ghost use Rattle.vale_parser.specs.Productions.{head, procedure_, lemma_, function_, plain_at, parts_at, result_at, export_, declaration};
 ghost use Rattle.vale_parser.specs.Reads.{Gives, header_view};
 
 use crate::arguments::expressions;
-use crate::clauses::{clauses, expression_end, lemma_clauses};
+use crate::clauses::{asked, clauses, expression_end, lemma_clauses};
 use crate::fault::PartFault;
 use crate::front::{Read, expect, name};
 use crate::parameters::{binds, parameters};
@@ -103,26 +103,6 @@ fn plain_at<'a>(
     })
 }
 
-fn zero_part<'a>(alloc: Global, tokens: &'a [Token]) -> Result<Read<'a, Expr>, PartFault>
-    ensures { Gives (λ r. (tree r.part, r.rest.now)) result (asked (is_zero (peek tokens.now)) (expression_end tokens.now)) }
-{
-    if is_zero(peek(tokens)) {
-        expression_end(alloc, tokens)
-    } else {
-        Err(PartFault::NotAPart)
-    }
-}
-
-fn step_part<'a>(alloc: Global, tokens: &'a [Token]) -> Result<Read<'a, Expr>, PartFault>
-    ensures { Gives (λ r. (tree r.part, r.rest.now)) result (asked (is_step (peek tokens.now)) (expression_end tokens.now)) }
-{
-    if is_step(peek(tokens)) {
-        expression_end(alloc, tokens)
-    } else {
-        Err(PartFault::NotAPart)
-    }
-}
-
 // The parts of a recursive function.
 fn parts_at<'a>(
     alloc: Global,
@@ -131,8 +111,8 @@ fn parts_at<'a>(
 ) -> Result<Read<'a, Decl>, PartFault>
     ensures { Gives (λ r. (decl_tree r.part, r.rest.now)) result (parts_at (header_view header) tokens.now) }
 {
-    let zero = zero_part(alloc, tokens)?;
-    let step = step_part(alloc, zero.rest)?;
+    let zero = asked(alloc, is_zero(peek(tokens)), tokens)?;
+    let step = asked(alloc, is_step(peek(zero.rest)), zero.rest)?;
     let rest = expect(step.rest, Mark::BraceClose)?;
     Ok(Read {
         part: Decl::Function(

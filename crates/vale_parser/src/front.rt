@@ -20,6 +20,7 @@ pub(crate) struct Read<'a, T> {
     pub(crate) rest: &'a [Token],
 }
 
+// Whether the marks are the same, where the first is none of the operators between expressions.
 fn same_mark(a: Mark, b: Mark) -> bool
     ensures { result ≡ mark_eq a b }
 {
@@ -41,7 +42,7 @@ fn same_mark(a: Mark, b: Mark) -> bool
     }
 }
 
-/// Whether a mark stands at the front.
+/// Whether a mark, none of the operators between expressions, stands at the front.
 pub(crate) fn is_at(tokens: &[Token], mark: Mark) -> bool
     ensures { result ≡ is_mark mark (peek tokens.now) }
 {

@@ -10,7 +10,6 @@ use crate::arguments::{expressions, test};
 use crate::clauses::expression_end;
 use crate::fault::PartFault;
 use crate::front::{expect, is_at};
-use crate::statements::higher;
 use crate::words::is_else;
 use expr_parser::{after, name_of, spot_of};
 use sqlite_items::Items;
@@ -123,7 +122,7 @@ fn arms<'a>(alloc: Global, tokens: &'a [Token], below: u8) -> Result<LemmaBranch
     Ok(LemmaBranches {
         first: first.trees,
         second: second.arm,
-        height: higher(first.height, second.height) + 1,
+        height: first.height.max(second.height) + 1,
         rest: second.rest,
     })
 }
@@ -186,7 +185,7 @@ fn body<'a>(alloc: Global, tokens: &'a [Token], below: u8) -> Result<LemmaBodied
         }
         let next = statement(alloc, rest, below)?;
         trees.push(next.tree)?;
-        height = higher(height, next.height);
+        height = height.max(next.height);
         rest = next.rest;
     }
     Err(PartFault::NotAPart)

@@ -44,10 +44,13 @@ impl<T: Drop> From<AllocFailed<T>> for ParseFault {
     }
 }
 
-/// No declaration's spelling is a proper front of another's, and no list of tokens spells two lists of declarations.
+/// No declaration's spelling is a proper front of another's, and no list of tokens spells two lists of declarations,
+/// stops at two places, or does both.
 pub fn declared_once()
     ensures one { (ts : List AToken) (x y : De) (r q : List AToken) → Declaration ts x r → Declaration ts y q → (x ≡ y) × (r ≡ q) }
     ensures all { (ts : List AToken) (xs ys : List De) → AreDecls ts xs → AreDecls ts ys → xs ≡ ys }
+    ensures place { (ts : List AToken) (s t : ASpot) → StopsAt ts s → StopsAt ts t → s ≡ t }
+    ensures either { (ts : List AToken) (xs : List De) (s : ASpot) → AreDecls ts xs → StopsAt ts s → ⊥ }
 {}
 
 /// The declarations that the tokens are, all of them.

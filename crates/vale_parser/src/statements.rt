@@ -5,11 +5,11 @@ ghost use Rattle.std.specs.Prelude.{◌≡◌, ◌≤◌, ◌<◌, suc, max, dro
 ghost use Rattle.vale_syntax.specs.Peek.{peek};
 ghost use Rattle.vale_syntax.specs.Trees.{tree};
 ghost use Rattle.vale_syntax.specs.Programs.{stmt_tree, sts, no_sts};
-ghost use Rattle.vale_parser.specs.Productions.{asked, is_if, is_decreases, expression_end, test, call_at, assign_at, ghost_statement, named_by, simple, statement, statement_by, loop_at, arms, block, body, else_by};
+ghost use Rattle.vale_parser.specs.Productions.{asked, is_if, test, call_at, assign_at, ghost_statement, named_by, simple, statement, statement_by, loop_at, arms, block, body, else_by};
 ghost use Rattle.vale_parser.specs.Reads.{Gives, stated_view, bodied_view, armed_view, branches_view};
 
 use crate::arguments::{arguments, invariants, test};
-use crate::clauses::expression_end;
+use crate::clauses::{asked, expression_end};
 use crate::fault::PartFault;
 use crate::front::{Read, expect, expression, is_at, name};
 use crate::words::{is_decreases, is_else, is_if, sort_behind};
@@ -127,23 +127,6 @@ fn inline_test<'a>(alloc: Global, tokens: &'a [Token]) -> Result<Read<'a, Expr>,
     }
 }
 
-fn measure<'a>(alloc: Global, tokens: &'a [Token]) -> Result<Read<'a, Expr>, PartFault>
-    ensures { Gives (λ r. (tree r.part, r.rest.now)) result (asked (is_decreases (peek tokens.now)) (expression_end tokens.now)) }
-{
-    if is_decreases(peek(tokens)) {
-        expression_end(alloc, tokens)
-    } else {
-        Err(PartFault::NotAPart)
-    }
-}
-
-/// The greater of two depths.
-pub(crate) fn higher(a: u8, b: u8) -> u8
-    ensures { result ≡ max a b }
-{
-    if a < b { b } else { a }
-}
-
 // A statement with a depth of at most `left`.
 #[cycle(statement)]
 #[tactic(auto, unfolding(crate::specs::Productions::statement))]
@@ -211,7 +194,7 @@ fn loop_at<'a>(
     ensures shallow { IfOk result (λ s. s.height ≤ suc below) }
 {
     let invariants = invariants(alloc, test.rest)?;
-    let measure = measure(alloc, invariants.rest)?;
+    let measure = asked(alloc, is_decreases(peek(invariants.rest)), invariants.rest)?;
     let body = block(alloc, measure.rest, below)?;
     Ok(Stated {
         tree: Stmt::While(spot, test.part, invariants.part, measure.part, body.trees),
@@ -231,7 +214,7 @@ fn arms<'a>(alloc: Global, tokens: &'a [Token], below: u8) -> Result<Branches<'a
     Ok(Branches {
         first: first.trees,
         second: second.arm,
-        height: higher(first.height, second.height) + 1,
+        height: first.height.max(second.height) + 1,
         rest: second.rest,
     })
 }
@@ -290,7 +273,7 @@ fn body<'a>(alloc: Global, tokens: &'a [Token], below: u8) -> Result<Bodied<'a>,
         }
         let next = statement(alloc, rest, below)?;
         trees.push(next.tree)?;
-        height = higher(height, next.height);
+        height = height.max(next.height);
         rest = next.rest;
     }
     Err(PartFault::NotAPart)

@@ -1,4 +1,5 @@
-//! The source language: places in files and tokens, with the definition of which tokens a text has.
+//! The source language: tokens and trees, the definitions of which tokens a text has and which trees tokens spell, and
+//! the text of an expression.
 #![tactic(auto)]
 
 mod declaration;

@@ -1,7 +1,8 @@
-use Rattle.std.proofs.Common.{length, map, sym, ◌∙◌, arith}
+use Rattle.std.proofs.Common.{[], ◌∷◌, length, map, sym, ◌∙◌, arith}
+use Rattle.std.proofs.lemmas.List.{map-append}
 use Rattle.vale_syntax.specs.Trees.{tree}
 use Rattle.vale_parser.specs.Productions.{is_invariant, invariant_}
-use Rattle.vale_parser.proofs.Turns.{turns, passed_on, many_stop, many_fail, many_go_on, many_done, map_last}
+use Rattle.vale_parser.proofs.Turns.{turns, passed_on, many_stop, many_fail, many_go_on, many_done}
 use Rattle.vale_parser.proofs.arguments.invariants.Goals as goal
 
 pub returns-then-not-is_invariant : goal.returns-then-not-is_invariant
@@ -16,7 +17,7 @@ pub loop-turn-preserved : goal.loop-turn-preserved
 loop-turn-preserved c =
     let next = many_go_on is_invariant invariant_ _ _ (map tree c.loop-turn.parts) c.loop-turn.rest.now c.is_invariant.result (tree c.in_ok-next.next.part) c.in_ok-next.next.rest.now
     (turns (length c.args.tokens.now) c.loop-turn._turn c.loop-turn-test.true) (rw c.peek.ensures at c.is_invariant.ensures) c.if-not-is_invariant.false c.in_ok-next.ensures in
-    rw (c.in_ok-push.ensures.ok, map_last tree c.loop-turn.parts c.in_ok-next.next.part) (sym next ∙ c.loop-turn.invariant)
+    rw (c.in_ok-push.ensures.ok, map-append tree c.loop-turn.parts (c.in_ok-next.next.part ∷ [])) (sym next ∙ c.loop-turn.invariant)
 
 pub returns : goal.returns
 returns c = sym c.loop-turn.invariant ∙ many_done is_invariant invariant_ _ _ _ (omega (arith, c.loop-turn-test.false))

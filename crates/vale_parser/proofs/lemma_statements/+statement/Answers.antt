@@ -20,8 +20,8 @@ body-loop-turn-preserved t c =
     let next = lbody_go_on (lstatement c.args.below) _ _ (lsts (map lstmt_tree c.loop-turn.trees)) c.loop-turn.height c.loop-turn.rest.now c.is_at.result (lstated_view c.in_ok-next.next)
     (turns (length c.args.tokens.now) c.loop-turn._turn c.loop-turn-test.true) c.is_at.ensures c.if-is_at.false c.in_ok-next.ensures.found in
     record {
-      found = rw (c.in_ok-push.ensures.ok, c.higher-height.ensures, lsts_last_is c.loop-turn.trees c.in_ok-next.next.tree) (sym next ∙ c.loop-turn.invariant.found);
-      shallow = omega (arith, c.higher-height.ensures, c.loop-turn.invariant.shallow, c.in_ok-next.ensures.shallow);
+      found = rw (c.in_ok-push.ensures.ok, c.max-height.ensures, lsts_last_is c.loop-turn.trees c.in_ok-next.next.tree) (sym next ∙ c.loop-turn.invariant.found);
+      shallow = omega (arith, c.max-height.ensures, c.loop-turn.invariant.shallow, c.in_ok-next.ensures.shallow);
     }
 
 pub body-returns-clause-found : goal.body-returns-clause-found
