@@ -1,11 +1,11 @@
 -- The sources that are built so far, as trees: one procedure without branches, and its export.
-use Rattle.std.specs.Prelude.{◌≡◌, ℕ, ◌^◌, ◌-◌, ℤ, pos, negsuc, Bool, false, not, ◌&&◌, int_le, int_lt, ◌-ℤ◌, nat_le, ◌==◌, List, [], ◌∷◌, ◌++◌, length, codes, Option, Some, None, Result, Ok, Err, if◌then◌else◌}
-use Rattle.std.specs.List.{find}
+use Rattle.std.specs.Prelude.{◌≡◌, ℕ, ◌^◌, ◌-◌, ℤ, pos, negsuc, Bool, false, not, ◌&&◌, int_le, int_lt, ◌-ℤ◌, ◌≤ℤ◌, ◌<ℤ◌, ◌≤◌, true, nat_le, ◌==◌, List, [], ◌∷◌, ◌++◌, length, codes, Option, Some, None, is_some, Result, Ok, Err, if◌then◌else◌}
+use Rattle.std.specs.List.{find, AllByRecursion}
 use Rattle.std.specs.Str.{bytes_eq}
 use Rattle.x64_syntax.specs.declared.places.Reg.{Reg as GeneralReg}
 use Rattle.x64_syntax.specs.declared.places.Reg.TheVariants.{Rsp}
 use Rattle.x64_syntax.specs.declared.operands.Opr.{Opr}
-use Rattle.x64_syntax.specs.declared.operands.Opr.TheVariants.{R, Imm}
+use Rattle.x64_syntax.specs.declared.operands.Opr.TheVariants.{R, Imm, M}
 use Rattle.x64_syntax.specs.declared.instructions.AluOp.TheVariants as alu
 use Rattle.x64_syntax.specs.declared.instructions.Ins.{Ins}
 use Rattle.x64_syntax.specs.declared.instructions.Ins.TheVariants.{Mov, Alu}
@@ -149,6 +149,26 @@ straight_line [] = None
 straight_line (d ∷ []) = None
 straight_line (d ∷ e ∷ []) = pair_of d e
 straight_line (d ∷ e ∷ f ∷ ds) = None
+
+-- What holds of every procedure of the form: its operands stand in the list of its registers, rsp isn't among them, and
+-- its constants are those that the fields of its instructions hold.
+abbrev pub has : List GeneralReg → GeneralReg → Bool
+has rs r = is_some (among rs r)
+
+abbrev pub IsSource : List GeneralReg → ℕ → Opr → Type 0
+IsSource rs n (R s) = has rs s ≡ true
+IsSource rs n (Imm z) = (negsuc (n - 1) ≤ℤ z) × (z <ℤ pos n)
+IsSource rs n (M m) = ⊥
+
+abbrev pub IsInstruction : List GeneralReg → Ins → Type 0
+IsInstruction rs (Mov d s) = (has rs d ≡ true) × IsSource rs (2 ^ 63) s
+IsInstruction rs (Alu op d s) = (has rs d ≡ true) × IsSource rs (2 ^ 31) s
+
+pub record IsStraight (p : StraightLine) : Type 0 where
+  pub export : is_export_text p.export ≡ true
+  pub few : length p.instructions ≤ statement_limit
+  pub rsp : has p.registers Rsp ≡ false
+  pub each : AllByRecursion (IsInstruction p.registers) p.instructions
 
 -- what was returned is what is given, unless memory ran out
 abbrev pub Fails : {A : Type 0} → FormFault → Option A → Type 0

@@ -1,8 +1,8 @@
 // Whole sources of the form.
 
-ghost use Rattle.std.specs.Prelude.{◌≡◌, map};
+ghost use Rattle.std.specs.Prelude.{◌≡◌, map, IfOk};
 ghost use Rattle.vale_syntax.specs.Programs.{decl_tree, clause_tree, stmt_tree, sts};
-ghost use Rattle.straight_line.specs.Form.{are_names, body, procedure_, pair_of, straight_line, Gives};
+ghost use Rattle.straight_line.specs.Form.{are_names, body, procedure_, pair_of, straight_line, IsStraight, Gives};
 
 use crate::clauses::read_clauses;
 use crate::fault::FormFault;
@@ -79,10 +79,11 @@ fn pair(alloc: Global, first: &Decl, second: &Decl) -> Result<StraightLine, Form
 
 /// The procedure that declarations of the form are.
 pub fn straight_line(alloc: Global, decls: &[Decl]) -> Result<StraightLine, FormFault>
-    ensures { Gives result (straight_line (map decl_tree decls.now)) }
+    ensures gives { Gives result (straight_line (map decl_tree decls.now)) }
+    ensures fits { IfOk result IsStraight }
 {
-    match decls {
-        [procedure, export] => pair(alloc, procedure, export),
-        [] | [_] | [_, _, _, ..] => Err(FormFault::NotOfForm),
-    }
+    let [procedure, export] = decls else {
+        return Err(FormFault::NotOfForm);
+    };
+    pair(alloc, procedure, export)
 }
