@@ -2,13 +2,11 @@
 use Rattle.std.proofs.Common.{◌≡◌, ℕ, zero, suc, ◌+◌, ◌<◌, ◌≤◌, ◌^◌, Bool, true, false, cond, List, [], ◌∷◌, ◌++◌, length, Option, Some, None, refl, sym, ap, ◌∙◌, subst, arith, decimal}
 use Rattle.std.specs.Prelude.{codes, nat_le}
 use Rattle.std.specs.List.{AllByRecursion}
-use Rattle.std.proofs.lemmas.Bool.{leb-true, le-leb}
+use Rattle.std.proofs.lemmas.Bool.{leb-true, le-leb, false≢true, eqb-true}
 use Rattle.std.proofs.Common.{length-append}
 use Rattle.vale_driver.specs.Reading.{◌>>=◌, given, strip, number_at}
-use Rattle.vale_driver.specs.Source.{last, ends}
-use Rattle.vale_driver.specs.Certificate.{Pair, FitsPair, hypothesis_limit, pair_text, more_text, pairs_text, certificate_text, pair_at, more_at, with_pairs, behind_comma, begins_pair, pairs_at, opening_at, certificate_at}
+use Rattle.vale_driver.specs.Certificate.{Pair, FitsPair, hypothesis_limit, pair_text, more_text, pairs_text, certificate_text, pair_at, more_at, with_pairs, behind_comma, begins_pair, pairs_at, opening_at, certificate_at, last, ends}
 use Rattle.vale_driver.proofs.Pieces.{bind_some, given_some, strip_is, strip_takes, takes, number_is, number_takes}
-use Rattle.vale_driver.proofs.SourceLaws.{ends_is, last_ends}
 
 abbrev PairOf : Type 0
 PairOf = Pair × List ℕ
@@ -145,6 +143,16 @@ pairs_takes (p ∷ ps) rest fits s b =
     ∙ ap (with_pairs (p ∷ [])) (more_takes (length (more_text ps rest)) ps rest (length-more_text ps rest) fits.1 s)
 
 -- a text is read as a certificate only where it is spelled so
+
+ends_is : (bytes : List ℕ) → ends bytes ≡ true → (b : Bool) × (bytes ≡ last b)
+ends_is [] h = (false, refl)
+ends_is (c ∷ []) h = (true, ap (λ d. d ∷ []) (eqb-true c 10 h))
+ends_is (c ∷ d ∷ bs) h = absurd (false≢true h)
+
+last_ends : (b : Bool) → ends (last b) ≡ true
+last_ends true = refl
+last_ends false = refl
+
 pub certificate_is : (name bytes : List ℕ) (ps : List Pair) → certificate_at name bytes ≡ Some ps → AllByRecursion FitsPair ps × ((b : Bool) × (bytes ≡ certificate_text name ps (last b)))
 unfolding certificate_at opening_at
 certificate_is name bytes ps h =

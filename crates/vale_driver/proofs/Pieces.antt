@@ -1,26 +1,18 @@
 -- What each piece that is read says of the text, and that a text in front of others is read again.
-use Rattle.std.proofs.Common.{◌≡◌, ℕ, suc, ◌+◌, ◌-◌, ◌<◌, ◌≤◌, ◌^◌, ◌%◌, ℤ, pos, negsuc, Bool, true, false, not, cond, List, [], ◌∷◌, ◌++◌, length, take, drop, Option, Some, None, refl, sym, ap, ◌∙◌, subst, arith, ◌&&◌, decimal, eqb, ltb, leb}
-use Rattle.std.specs.Prelude.{codes, ◌==◌, ◌≤ℤ◌, ◌<ℤ◌}
-use Rattle.std.specs.Fmt.{signed_decimal}
-use Rattle.std.specs.List.{prefix_len, list_all, find}
-use Rattle.std.specs.Str.{bytes_eq}
-use Rattle.std.proofs.lemmas.Bool.{not-true, and_parts, and_from, false≢true, ltb-true, leb-true, lt-ltb, le-leb, ne_eqb}
-use Rattle.std.proofs.lemmas.Int.{ints}
+use Rattle.std.proofs.Common.{◌≡◌, ℕ, ◌+◌, ◌<◌, ◌^◌, ◌%◌, Bool, true, false, not, cond, List, [], ◌∷◌, ◌++◌, length, take, drop, Option, Some, None, refl, sym, ap, ◌∙◌, subst, arith, decimal}
+use Rattle.std.specs.List.{prefix_len, list_all}
+use Rattle.std.proofs.lemmas.Bool.{and_parts, and_from, false≢true, ltb-true, le-leb}
 use Rattle.std.proofs.lemmas.Slice.Eq.{bytes_eq-Decides}
-use Rattle.std.proofs.lemmas.Fmt.{decimal_by_steps, decimal_nonempty}
+use Rattle.std.proofs.lemmas.Fmt.{decimal_by_steps}
 use Rattle.std.proofs.lemmas.List.{take-append-drop}
 use Rattle.std.proofs.Math.Seq.{take-append_seam, drop-append_seam}
 use Rattle.x64_syntax.specs.declared.places.Reg.{Reg}
 use Rattle.x64_syntax.specs.declared.places.Reg.TheVariants.{Rax, Rbx, Rcx, Rdx, Rsi, Rdi, Rbp, Rsp, R8, R9, R10, R11, R12, R13, R14, R15}
-use Rattle.x64_syntax.specs.declared.places.TheConstants.Reg.{ALL as ALL_REGS}
-use Rattle.x64_syntax.specs.Places.{reg_name, reg_of, reg_number}
+use Rattle.x64_syntax.specs.Places.{reg_name, reg_of}
 use Rattle.x64_syntax.specs.Words.{is_name_byte, is_digit_byte}
-use Rattle.vale_driver.specs.Reading.{◌>>=◌, given, strip, span, number_of, number_at, register_at, negative_at, positive_at, signed_after, signed_at}
+use Rattle.vale_driver.specs.Reading.{◌>>=◌, given, strip, span, number_of, number_at}
+pub use Rattle.vale_syntax.proofs.Sound.{bind_some}
 use Rattle.vale_driver.proofs.Numbers.{number_of-decimal}
-
-pub bind_some : {A B : Type 0} (o : Option A) (f : A → Option B) (y : B) → (o >>= f) ≡ Some y → (x : A) × (o ≡ Some x) × (f x ≡ Some y)
-bind_some None f y h = absurd cc
-bind_some (Some x) f y h = (x, refl, h)
 
 pub given_some : {A : Type 0} (b : Bool) (x y : A) → given b x ≡ Some y → (b ≡ true) × (x ≡ y)
 given_some true x y h = (refl, cc)
@@ -177,102 +169,3 @@ reg_name-bytes R12 = refl
 reg_name-bytes R13 = refl
 reg_name-bytes R14 = refl
 reg_name-bytes R15 = refl
-
--- what a name names is called so
-find_name : (rs : List Reg) (name : List ℕ) (r : Reg) → find (λ q. bytes_eq (reg_name q) name) rs ≡ Some r → reg_name r ≡ name
-find_name [] name r h = absurd cc
-find_name (q ∷ rs) name r h = by_test (bytes_eq (reg_name q) name) refl h
-    (λ k. find_name rs name r k)
-  where
-    by_test : (b : Bool) → bytes_eq (reg_name q) name ≡ b → cond b (Some q) (find (λ q. bytes_eq (reg_name q) name) rs) ≡ Some r → (find (λ q. bytes_eq (reg_name q) name) rs ≡ Some r → reg_name r ≡ name) → reg_name r ≡ name
-    by_test true e h k = let same : q ≡ r = cc in ap reg_name (sym same) ∙ (bytes_eq-Decides _ name).0 e
-    by_test false e h k = k h
-
-pub register_is : (bytes rest : List ℕ) (r : Reg) → register_at bytes ≡ Some (r, rest) → (bytes ≡ reg_name r ++ rest) × ((reg_number r == 7) ≡ false)
-unfolding register_at
-register_is bytes rest r h =
-    let s = span is_name_byte bytes in
-    let b = bind_some (reg_of s.0) _ _ h in
-    let g = given_some _ _ _ b.2 in
-    let first = ap (λ (x : Reg × List ℕ). x.0) g.1 in
-    let second = ap (λ (x : Reg × List ℕ). x.1) g.1 in
-    let name = find_name ALL_REGS s.0 b.0 b.1 in (
-      span_whole is_name_byte bytes ∙ ap (λ x. x ++ s.1) (sym name) ∙ ap (λ q. reg_name q ++ s.1) first ∙ ap (λ x. reg_name r ++ x) second,
-      subst (λ q. (reg_number q == 7) ≡ false) first (not-true _ g.0),
-    )
-
-pub register_takes : (r : Reg) (rest : List ℕ) → (reg_number r == 7) ≡ false → stops is_name_byte rest ≡ true → register_at (reg_name r ++ rest) ≡ Some (r, rest)
-unfolding register_at
-register_takes r rest h s =
-    ap (λ x. reg_of x.0 >>= λ q. given (not (reg_number q == 7)) (q, x.1)) (span_front is_name_byte (reg_name r) rest (reg_name-bytes r) s)
-    ∙ ap (λ o. o >>= λ q. given (not (reg_number q == 7)) (q, rest)) (reg_of-reg_name r)
-    ∙ ap (λ b. given b (r, rest)) (not_false _ h)
-
--- what a statement may add
-abbrev pub Fits32 : ℤ → Type 0
-Fits32 z = (negsuc (2 ^ 31 - 1) ≤ℤ z) × (z <ℤ pos (2 ^ 31))
-
-negative_is : (bytes rest : List ℕ) (z : ℤ) → negative_at bytes ≡ Some (z, rest) → (codes "-" ++ bytes ≡ signed_decimal z ++ rest) × Fits32 z
-unfolding negative_at
-negative_is bytes rest z h =
-    let b = bind_some (number_at bytes) _ _ h in
-    let n = b.0 in
-    let g = given_some _ _ _ b.2 in
-    let both = and_parts _ _ g.0 in
-    let low : 0 < n.0 = ltb-true _ _ both.0 in
-    let high : n.0 ≤ 2 ^ 31 = leb-true _ _ both.1 in
-    let first : negsuc (n.0 - 1) ≡ z = ap (λ (x : ℤ × List ℕ). x.0) g.1 in
-    let second = ap (λ (x : ℤ × List ℕ). x.1) g.1 in
-    let text = (number_is bytes n.1 n.0 b.1).0 in
-    let e : n.0 ≡ suc (n.0 - 1) = omega arith in (
-      ap (λ x. 45 ∷ x) (text ∙ ap (λ k. decimal k ++ n.1) e) ∙ ap (λ x. signed_decimal x ++ n.1) first ∙ ap (λ x. signed_decimal z ++ x) second,
-      subst Fits32 first (omega (arith, ints), omega (arith, ints)),
-    )
-
-positive_is : (bytes rest : List ℕ) (z : ℤ) → positive_at bytes ≡ Some (z, rest) → (bytes ≡ signed_decimal z ++ rest) × Fits32 z
-unfolding positive_at
-positive_is bytes rest z h =
-    let b = bind_some (number_at bytes) _ _ h in
-    let n = b.0 in
-    let g = given_some _ _ _ b.2 in
-    let high : n.0 < 2 ^ 31 = ltb-true _ _ g.0 in
-    let first : pos n.0 ≡ z = ap (λ (x : ℤ × List ℕ). x.0) g.1 in
-    let second = ap (λ (x : ℤ × List ℕ). x.1) g.1 in
-    let text = (number_is bytes n.1 n.0 b.1).0 in (
-      text ∙ ap (λ x. signed_decimal x ++ n.1) first ∙ ap (λ x. signed_decimal z ++ x) second,
-      subst Fits32 first (omega (arith, ints), omega (arith, ints)),
-    )
-
-pub signed_is : (bytes rest : List ℕ) (z : ℤ) → signed_at bytes ≡ Some (z, rest) → (bytes ≡ signed_decimal z ++ rest) × Fits32 z
-unfolding signed_at
-signed_is bytes rest z h = by_sign (strip (codes "-") bytes) refl h
-  where
-    by_sign : (o : Option (List ℕ)) → strip (codes "-") bytes ≡ o → signed_after o bytes ≡ Some (z, rest) → (bytes ≡ signed_decimal z ++ rest) × Fits32 z
-    by_sign None e h = positive_is bytes rest z h
-    by_sign (Some behind) e h = let n = negative_is behind rest z h in (strip_is (codes "-") bytes behind e ∙ n.0, n.1)
-
--- no - stands in front of a number without a sign
-strip_digit : (ds rest : List ℕ) → list_all is_digit_byte ds ≡ true → 0 < length ds → strip (codes "-") (ds ++ rest) ≡ None
-unfolding strip
-strip_digit [] rest h k = absurd (omega arith)
-strip_digit (d ∷ ds) rest h k =
-    let low : 48 ≤ d = leb-true 48 d (and_parts _ _ (and_parts _ _ h).0).0 in
-    let other : eqb d 45 ≡ false = ne_eqb d 45 (λ e. omega arith) in
-    ap (λ b. given (b && bytes_eq (take 0 (ds ++ rest)) []) (drop 0 (ds ++ rest))) other
-
-pub signed_takes : (z : ℤ) (rest : List ℕ) → Fits32 z → stops is_digit_byte rest ≡ true → signed_at (signed_decimal z ++ rest) ≡ Some (z, rest)
-unfolding signed_at negative_at positive_at
-signed_takes (pos n) rest fits s =
-    let small : n < 2 ^ 31 = omega (arith, ints) in
-    let wide : n < 2 ^ 64 = omega arith in
-    ap (λ o. signed_after o (decimal n ++ rest)) (strip_digit (decimal n) rest (digits-decimal n wide) (decimal_nonempty n wide))
-    ∙ ap (λ o. o >>= λ m. given (ltb m.0 (2 ^ 31)) (pos m.0, m.1)) (number_takes n rest wide s)
-    ∙ ap (λ b. given b (pos n, rest)) (lt-ltb n (2 ^ 31) small)
-signed_takes (negsuc n) rest fits s =
-    let small : suc n ≤ 2 ^ 31 = omega (arith, ints) in
-    let wide : suc n < 2 ^ 64 = omega arith in
-    let e : suc n - 1 ≡ n = omega arith in
-    ap (λ o. signed_after o (45 ∷ (decimal (suc n) ++ rest))) (strip_takes (codes "-") (decimal (suc n) ++ rest))
-    ∙ ap (λ o. o >>= λ m. given (ltb 0 m.0 && leb m.0 (2 ^ 31)) (negsuc (m.0 - 1), m.1)) (number_takes (suc n) rest wide s)
-    ∙ ap (λ b. given b (negsuc (suc n - 1), rest)) (and_from _ _ (lt-ltb 0 (suc n) (omega arith)) (le-leb (suc n) (2 ^ 31) small))
-    ∙ ap (λ k. Some (negsuc k, rest)) e

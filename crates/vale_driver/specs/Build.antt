@@ -1,60 +1,44 @@
--- What a source of the form means: its instructions, its contract and its condition.
-use Rattle.std.specs.Prelude.{ℕ, ◌+◌, ℤ, Bool, true, false, List, [], ◌∷◌, ◌++◌, map}
-use Rattle.x64_syntax.specs.declared.places.Reg.{Reg as GeneralReg}
+-- What a procedure without branches means: its contract, its condition and its code.
+use Rattle.std.specs.Prelude.{Bool, true, false, List, [], ◌∷◌}
 use Rattle.x64_syntax.specs.declared.places.Place.{Place}
 use Rattle.x64_syntax.specs.declared.places.Place.TheVariants.{Reg, Xmm, Flag}
-use Rattle.x64_syntax.specs.declared.operands.Opr.TheVariants.{Imm}
-use Rattle.x64_syntax.specs.declared.instructions.AluOp.TheVariants.{Add}
-use Rattle.x64_syntax.specs.declared.instructions.Ins.{Ins}
-use Rattle.x64_syntax.specs.declared.instructions.Ins.TheVariants.{Alu}
 use Rattle.x64_syntax.specs.declared.items.Item.{Item}
-use Rattle.x64_syntax.specs.Places.{reg_eq}
 use Rattle.term_core.specs.declared.term.BinOp.TheVariants as bin
 use Rattle.term_core.specs.Terms.{Tm}
 use Rattle.x64_meaning.specs.Exp.{Exp, Before, After, W64, Bin}
-use Rattle.x64_meaning.specs.Table.{equations}
 use Rattle.x64_meaning.specs.Contract.{Contract}
-use Rattle.x64_meaning.specs.Condition.{hypothesis, straight_hyps, straight_goal, straight_items}
-use Rattle.vale_driver.specs.declared.straight.Straight.{Straight}
+use Rattle.x64_meaning.specs.Condition.{straight_hyps, straight_goal, straight_items}
+use Rattle.straight_line.specs.declared.form.Promise.{Promise}
+use Rattle.straight_line.specs.declared.form.Promise.TheVariants.{Constant, Old, Sum}
+use Rattle.straight_line.specs.declared.form.StraightLine.{StraightLine}
+use Rattle.straight_line.specs.Form.{has}
 
-abbrev pub add_amount : GeneralReg → ℤ → Ins
-add_amount r z = Alu Add r (Imm z)
+-- what a register holds at the end: a constant, what a register held at the start, or that and a constant more
+abbrev pub promised : Promise → Exp
+promised (Constant r k) = Bin bin.Eq (After (Reg r)) (W64 k)
+promised (Old r q) = Bin bin.Eq (After (Reg r)) (Before (Reg q))
+promised (Sum r q k) = Bin bin.Eq (After (Reg r)) (Bin bin.Add (Before (Reg q)) (W64 k))
 
-abbrev pub instructions : Straight → List Ins
-instructions p = map (add_amount p.register) p.amounts
+-- it reads its registers, and changes them and the flags
+abbrev pub is_read : StraightLine → Place → Bool
+is_read p (Reg q) = has p.registers q
+is_read p _ = false
 
--- the register is what it was at the start, and the total more
-abbrev pub promise : Straight → Exp
-promise p = Bin bin.Eq (After (Reg p.register)) (Bin bin.Add (Before (Reg p.register)) (W64 p.total))
+abbrev pub is_changed : StraightLine → Place → Bool
+is_changed p (Reg q) = has p.registers q
+is_changed p (Xmm x) = false
+is_changed p (Flag f) = true
 
-abbrev pub is_register : GeneralReg → Place → Bool
-is_register r (Reg q) = reg_eq r q
-is_register r _ = false
-
-abbrev pub is_changed : GeneralReg → Place → Bool
-is_changed r (Reg q) = reg_eq q r
-is_changed r (Xmm x) = false
-is_changed r (Flag f) = true
-
--- it reads the register, and changes it and the flags
-abbrev pub contract_of : Straight → Contract
-contract_of p = record { reads = is_register p.register; modifies = is_changed p.register; requires_ = []; ensures_ = promise p ∷ [] }
+abbrev pub contract_of : StraightLine → Contract
+contract_of p = record { reads = is_read p; modifies = is_changed p; requires_ = []; ensures_ = promised p.promise ∷ [] }
 
 -- the condition: the instructions' equations, and the promise as the goal
-abbrev pub condition_hyps : Straight → List Tm
-condition_hyps p = straight_hyps (instructions p)
+abbrev pub condition_hyps : StraightLine → List Tm
+condition_hyps p = straight_hyps p.instructions
 
-abbrev pub condition_goal : Straight → Tm
-condition_goal p = straight_goal (instructions p) (promise p)
+abbrev pub condition_goal : StraightLine → Tm
+condition_goal p = straight_goal p.instructions (promised p.promise)
 
 -- the lowered code of its export
-abbrev pub lowered : Straight → List Item
-lowered p = straight_items p.export (instructions p)
-
--- the hypotheses of one statement whose places all have the version k, and of statements from there on
-abbrev pub statement_hyps : GeneralReg → ℤ → ℕ → List Tm
-statement_hyps r z k = map (hypothesis (λ p. k)) (equations (add_amount r z))
-
-unfoldable pub hyps_from : GeneralReg → List ℤ → ℕ → List Tm
-hyps_from r [] k = []
-hyps_from r (z ∷ zs) k = statement_hyps r z k ++ hyps_from r zs (k + 1)
+abbrev pub lowered : StraightLine → List Item
+lowered p = straight_items p.export p.instructions

@@ -1,8 +1,9 @@
 -- The certificates that are read: one section with one `ring` step.
-use Rattle.std.specs.Prelude.{◌≡◌, ℕ, zero, suc, ◌<◌, ◌≤◌, ◌^◌, Bool, false, nat_le, ◌==◌, if◌then◌else◌, List, [], ◌∷◌, ◌++◌, length, Option, Some, None, decimal, codes}
+use Rattle.std.specs.Prelude.{◌≡◌, ℕ, zero, suc, ◌<◌, ◌≤◌, ◌^◌, Bool, true, false, nat_le, ◌==◌, if◌then◌else◌, List, [], ◌∷◌, ◌++◌, length, Option, Some, None, Result, Ok, Err, decimal, codes}
 use Rattle.std.specs.List.{AllByRecursion}
 use Rattle.vale_driver.specs.Reading.{◌>>=◌, given, strip, number_at}
-use Rattle.vale_driver.specs.Source.{last, ends}
+use Rattle.vale_driver.specs.declared.certificate.CertificateFault.{CertificateFault}
+use Rattle.vale_driver.specs.declared.certificate.CertificateFault.TheVariants.{NotOfForm, NoMemory}
 
 -- the most bytes of a certificate
 abbrev pub certificate_limit : ℕ
@@ -36,12 +37,26 @@ abbrev pub certificate_text : List ℕ → List Pair → List ℕ → List ℕ
 certificate_text name ps rest =
     codes "{\"condition\":\"" ++ (name ++ (codes "()#0\"}\n[\"ring\",[" ++ pairs_text ps (codes "]]" ++ rest)))
 
+-- nothing, or a newline
+abbrev pub last : Bool → List ℕ
+last false = []
+last true = 10 ∷ []
+
 -- A text is that of such a certificate. Its last newline may lack.
 pub record Proves (text name : List ℕ) (ps : List Pair) : Type 0 where
   pub fits : AllByRecursion FitsPair ps
   pub short : length text ≤ certificate_limit
   pub newline : Bool
   pub text_is : text ≡ certificate_text name ps (last newline)
+
+-- what reading gives, unless memory ran out
+abbrev pub Faults : {A : Type 0} → Option A → CertificateFault → Type 0
+Faults read NoMemory = Unit {0}
+Faults read NotOfForm = read ≡ None
+
+abbrev pub Reads : {A B : Type 0} → (A → B) → Option B → Result A CertificateFault → Type 0
+Reads view read (Ok x) = read ≡ Some (view x)
+Reads view read (Err e) = Faults read e
 
 -- Reading, from the front.
 unfoldable pub pair_at : List ℕ → Option (Pair × List ℕ)
@@ -82,6 +97,11 @@ opening_at name bytes = do
   a ← strip (codes "{\"condition\":\"") bytes
   b ← strip name a
   strip (codes "()#0\"}\n[\"ring\",[") b
+
+abbrev pub ends : List ℕ → Bool
+ends [] = true
+ends (b ∷ []) = b == 10
+ends _ = false
 
 unfoldable pub certificate_at : List ℕ → List ℕ → Option (List Pair)
 certificate_at name bytes = do

@@ -1,12 +1,13 @@
 pub mod Reading
-pub mod Source
+pub mod Sources
 pub mod Certificate
 pub mod Ring
 pub mod RingCode
 pub mod Build
-pub mod Addition
+pub mod Terms
 pub mod Assembly
 pub mod Outcome
 pub mod Codes
 pub mod Stops
+pub mod Phases
 pub mod Ends

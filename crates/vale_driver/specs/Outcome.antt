@@ -1,13 +1,14 @@
 -- What the program answers: the words that it takes, its refusals, and what a finished build means.
-use Rattle.std.specs.Prelude.{◌≡◌, ℕ, Bool, true, false, not, ◌&&◌, ◌==◌, List, [], ◌∷◌, ◌++◌, Option, Some, None, ◌⊎◌, IfSome, decimal, codes, if◌then◌else◌}
+use Rattle.std.specs.Prelude.{◌≡◌, ℕ, Bool, true, false, not, ◌&&◌, ◌==◌, List, [], ◌∷◌, ◌++◌, Option, Some, None, IfSome, nat_le, length, map, slice_get, decimal, codes}
+use Rattle.std.specs.List.{list_all, AllByRecursion}
 use Rattle.std.specs.Str.{bytes_eq}
 use Rattle.x64_syntax.specs.declared.items.Item.{Item}
 use Rattle.x64_meaning.specs.Contract.{Meets, SameRuns}
 use Rattle.vale_outside.specs.Outside.{Appends, AppendsFront}
 use Rattle.vale_driver.specs.declared.status.Refusal.{Refusal}
-use Rattle.vale_driver.specs.declared.straight.Straight.{Straight}
+use Rattle.straight_line.specs.declared.form.StraightLine.{StraightLine}
 use Rattle.vale_driver.specs.Reading.{given}
-use Rattle.vale_driver.specs.Source.{Spells}
+use Rattle.vale_driver.specs.Sources.{Source, numbered, refusal, IsShort, Spells, NoForm, Phases}
 use Rattle.vale_driver.specs.Certificate.{Pair, Proves}
 use Rattle.vale_driver.specs.Ring.{ring_closes}
 use Rattle.vale_driver.specs.Build.{contract_of, condition_hyps, condition_goal, lowered}
@@ -16,7 +17,11 @@ use Rattle.vale_driver.specs.Assembly.{ReadsAs}
 -- the files that the words of a build name
 pub record Build : Type 0 where
   pub cert : List ℕ
-  pub file : List ℕ
+  pub files : List (List ℕ)
+
+-- the most source files
+abbrev pub file_limit : ℕ
+file_limit = 16
 
 -- a value of an option, or a file's name
 abbrev pub is_value : List ℕ → Bool
@@ -27,12 +32,12 @@ abbrev pub is_build : List ℕ → List ℕ → List ℕ → List ℕ → Bool
 is_build command syntax gas option =
     (bytes_eq command (codes "build") && bytes_eq syntax (codes "--syntax")) && (bytes_eq gas (codes "gas") && bytes_eq option (codes "--cert"))
 
-abbrev pub files : List ℕ → List ℕ → Option Build
-files cert file = given (is_value cert && is_value file) record { cert = cert; file = file }
+abbrev pub are_files : List (List ℕ) → Bool
+are_files files = (nat_le 1 (length files) && nat_le (length files) file_limit) && list_all is_value files
 
--- `build --syntax gas --cert CERT FILE`
+-- `build --syntax gas --cert CERT FILE..`
 abbrev pub form : List (List ℕ) → Option Build
-form (command ∷ syntax ∷ gas ∷ option ∷ cert ∷ file ∷ []) = if is_build command syntax gas option then files cert file else None
+form (command ∷ syntax ∷ gas ∷ option ∷ cert ∷ files) = given (is_build command syntax gas option && (is_value cert && are_files files)) record { cert = cert; files = files }
 form _ = None
 
 abbrev pub or_dash : Option (List ℕ) → List ℕ
@@ -54,59 +59,86 @@ usage_line = codes "usage: vale COMMAND [OPTIONS] FILE..\n"
 unfoldable pub read_fault_line : List ℕ
 read_fault_line = codes "read fault\n"
 
--- a file of which the reading isn't built
-abbrev pub not_built : ℕ → List ℕ → ℕ → Refusal
-not_built number file at = record { number = number; file = Some file; at = Some at; who = None; cause = codes "NotBuilt" }
+-- What the files of a build hold.
+pub record Held : Type 0 where
+  pub sources : List (List ℕ)
+  pub cert : List ℕ
 
--- the source, the first line of the certificate, and its step
-abbrev pub source_refusal : List ℕ → Refusal
-source_refusal file = not_built 2 file 0
+-- each file holds what is told of it, where something is
+abbrev pub EachHolds : (List ℕ → Option (List ℕ)) → List (List ℕ) → List (List ℕ) → Type 0
+EachHolds tells [] [] = Unit {0}
+EachHolds tells (n ∷ ns) (c ∷ cs) = IfSome (tells n) (λ told. c ≡ told) × EachHolds tells ns cs
+EachHolds tells _ _ = ⊥
 
+pub record Holds (tells : List ℕ → Option (List ℕ)) (b : Build) (h : Held) : Type 0 where
+  pub sources : EachHolds tells b.files h.sources
+  pub cert : IfSome (tells b.cert) (λ told. h.cert ≡ told)
+
+-- all that the files hold is told
+pub record TellsAll (tells : List ℕ → Option (List ℕ)) (b : Build) (h : Held) : Type 0 where
+  pub sources : map tells b.files ≡ map Some h.sources
+  pub cert : tells b.cert ≡ Some h.cert
+
+abbrev pub sources_of : Build → Held → List Source
+sources_of b h = numbered 0 b.files h.sources
+
+-- the first line of the certificate, and its step
 abbrev pub certificate_refusal : List ℕ → Refusal
-certificate_refusal cert = not_built 9 cert 1
+certificate_refusal cert = refusal 9 (Some cert) (Some 1) (codes "NotBuilt")
 
 abbrev pub step_refusal : List ℕ → List ℕ → Refusal
 step_refusal cert name = record { number = 11; file = Some cert; at = Some 2; who = Some (name ++ codes "()#0"); cause = codes "step 0" }
 
--- What is told of the source and of the certificate.
-pub record Told : Type 0 where
-  pub source : Option (List ℕ)
-  pub cert : Option (List ℕ)
-
--- the source that is told isn't of the form
-pub record SourceRefused (b : Build) (t : Told) (r : Refusal) : Type 0 where
-  pub is : r ≡ source_refusal b.file
-  pub not_of_form : IfSome t.source (λ s. (p : Straight) → Spells s p → ⊥)
-
--- the source is of the form, and the certificate isn't
-pub record CertificateRefused (b : Build) (t : Told) (r : Refusal) : Type 0 where
+-- The sources are of the form, and the certificate isn't.
+pub record CertificateRefused (b : Build) (h : Held) (r : Refusal) : Type 0 where
+  pub program : StraightLine
+  pub spells : Spells (sources_of b h) program
+  pub not_of_form : (steps : List Pair) → Proves h.cert program.name steps → ⊥
   pub is : r ≡ certificate_refusal b.cert
-  pub program : Straight
-  pub source : IfSome t.source (λ s. Spells s program)
-  pub not_of_form : IfSome t.cert (λ c. (ps : List Pair) → Proves c program.name ps → ⊥)
 
--- both are of their form, and the certificate's step doesn't apply
-pub record StepRefused (b : Build) (t : Told) (r : Refusal) : Type 0 where
-  pub program : Straight
+-- All are of their form, and the certificate's step doesn't apply.
+pub record StepRefused (b : Build) (h : Held) (r : Refusal) : Type 0 where
+  pub program : StraightLine
   pub steps : List Pair
-  pub is : r ≡ step_refusal b.cert program.name
-  pub source : IfSome t.source (λ s. Spells s program)
-  pub cert : IfSome t.cert (λ c. Proves c program.name steps)
+  pub spells : Spells (sources_of b h) program
+  pub proves : Proves h.cert program.name steps
   pub not_closed : ring_closes (condition_hyps program) (condition_goal program) steps ≡ false
+  pub is : r ≡ step_refusal b.cert program.name
 
-abbrev pub IsRefused : Build → Told → Refusal → Type 0
-IsRefused b t r = SourceRefused b t r ⊎ (CertificateRefused b t r ⊎ StepRefused b t r)
+-- a refusal that comes after all phases of the sources
+pub data Behind (b : Build) (h : Held) (r : Refusal) : Type 0 where
+  no_form : NoForm (slice_get b.files 0) (sources_of b h) r → Behind b h r
+  no_certificate : CertificateRefused b h r → Behind b h r
+  no_step : StepRefused b h r → Behind b h r
 
--- What a finished build means. Its text reads as exactly the lowered code of its source's export, and as nothing else.
+-- The first refusal: files that are too long, then texts without tokens, then tokens that aren't declarations, each over
+-- all source files; then sources of no form that is built, the certificate's form, and its step.
+abbrev pub FirstRefusal : Build → Held → Refusal → Type 0
+FirstRefusal b h r = Phases (sources_of b h) (Behind b h) r
+
+-- the files hold what is told of them, and this is the first refusal
+pub record IsRefused (tells : List ℕ → Option (List ℕ)) (b : Build) (r : Refusal) : Type 0 where
+  pub held : Held
+  pub holds : Holds tells b held
+  pub first : FirstRefusal b held r
+
+-- nothing is refused
+pub record Accepted (b : Build) (h : Held) (p : StraightLine) (steps : List Pair) : Type 0 where
+  pub short : AllByRecursion IsShort (sources_of b h)
+  pub spells : Spells (sources_of b h) p
+  pub proves : Proves h.cert p.name steps
+  pub closes : ring_closes (condition_hyps p) (condition_goal p) steps ≡ true
+
+-- What a finished build means. Its text reads as exactly the lowered code of its sources' export, and as nothing else.
 -- That export, started in any state that meets what its contract asks, ends without a fault, meets what the contract
 -- promises and changes only declared places. Of any two such starts that agree on what is public, the runs take as many
 -- steps and make the same observations.
-pub record IsBuilt (t : Told) (text : List ℕ) : Type 0 where
-  pub program : Straight
+pub record IsBuilt (tells : List ℕ → Option (List ℕ)) (b : Build) (text : List ℕ) : Type 0 where
+  pub held : Held
+  pub holds : Holds tells b held
+  pub program : StraightLine
   pub steps : List Pair
-  pub source : IfSome t.source (λ s. Spells s program)
-  pub cert : IfSome t.cert (λ c. Proves c program.name steps)
-  pub closed : ring_closes (condition_hyps program) (condition_goal program) steps ≡ true
+  pub accepted : Accepted b held program steps
   pub reads : ReadsAs text (lowered program)
   pub reads_only : (items : List Item) → ReadsAs text items → items ≡ lowered program
   pub meets : Meets (contract_of program) (lowered program) 0

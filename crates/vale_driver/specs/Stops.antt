@@ -1,39 +1,51 @@
 -- Why a build ends without a text.
 use Rattle.std.specs.Prelude.{◌≡◌, ℕ, ◌≤◌, ◌<◌, List, length, Option, Some, None, Result, Ok, Err, IfSome, Vec}
+use Rattle.std.specs.List.{AllByRecursion}
 use Rattle.std.specs.declared.alloc.Global.{Global}
 use Rattle.vale_outside.specs.Outside.{Rose}
-use Rattle.vale_driver.specs.declared.build.Stop.{Stop}
-use Rattle.vale_driver.specs.declared.build.Stop.TheVariants.{Refused, ReadFault, NoMemory}
-use Rattle.vale_driver.specs.declared.straight.Straight.{Straight}
-use Rattle.vale_driver.specs.Source.{Spells}
+use Rattle.straight_line.specs.declared.form.StraightLine.{StraightLine}
+use Rattle.vale_driver.specs.declared.status.Refusal.{Refusal}
+use Rattle.vale_driver.specs.declared.stop.Stop.{Stop}
+use Rattle.vale_driver.specs.declared.stop.Stop.TheVariants.{Refused, ReadFault, NoMemory}
+use Rattle.vale_driver.specs.Sources.{numbered, IsShort, Spells}
 use Rattle.vale_driver.specs.Certificate.{Pair, Proves}
-use Rattle.vale_driver.specs.Outcome.{Build, Told, IsRefused, source_refusal, certificate_refusal}
+use Rattle.vale_driver.specs.Outcome.{EachHolds, certificate_refusal, FirstRefusal}
 
-abbrev pub Stops : Build → Told → ℕ → ℕ → Stop → Type 0
-Stops b t before now (Refused r) = IsRefused b t r
-Stops b t before now ReadFault = Rose before now
-Stops b t before now NoMemory = Unit {0}
+-- a refusal of which this is so, a fault of the store, or want of memory
+abbrev pub StopsBy : (Refusal → Type 0) → Type 0 → Stop → Type 0
+StopsBy Refuses Failed (Refused r) = Refuses r
+StopsBy Refuses Failed ReadFault = Failed
+StopsBy Refuses Failed NoMemory = Unit {0}
 
--- a fault of a fetch
-abbrev pub FetchStops : ℕ → ℕ → Stop → Type 0
-FetchStops before now (Refused r) = ⊥
-FetchStops before now ReadFault = Rose before now
-FetchStops before now NoMemory = Unit {0}
+abbrev pub Never : Refusal → Type 0
+Never r = ⊥
 
 -- what a fetch gives of what is told: all of it within the limit, or none where there is more
 abbrev pub Fetched : Option (List ℕ) → ℕ → ℕ → ℕ → Result (Option (Vec ℕ Global)) Stop → Type 0
 Fetched told limit before now (Ok (Some v)) = (length v.items ≤ limit) × IfSome told (λ held. v.items ≡ held)
 Fetched told limit before now (Ok None) = IfSome told (λ held. limit < length held)
-Fetched told limit before now (Err e) = FetchStops before now e
+Fetched told limit before now (Err e) = StopsBy Never (Rose before now) e
 
--- the source isn't read
-abbrev pub SourceStops : List ℕ → Option (List ℕ) → ℕ → ℕ → Stop → Type 0
-SourceStops file told before now (Refused r) = (r ≡ source_refusal file) × IfSome told (λ s. (p : Straight) → Spells s p → ⊥)
-SourceStops file told before now ReadFault = Rose before now
-SourceStops file told before now NoMemory = Unit {0}
+-- the procedure that the files are together
+pub record SourcesSpell (tells : List ℕ → Option (List ℕ)) (files : List (List ℕ)) (p : StraightLine) : Type 0 where
+  pub contents : List (List ℕ)
+  pub holds : EachHolds tells files contents
+  pub short : AllByRecursion IsShort (numbered 0 files contents)
+  pub spells : Spells (numbered 0 files contents) p
 
--- the certificate isn't read
-abbrev pub CertificateStops : List ℕ → List ℕ → Option (List ℕ) → ℕ → ℕ → Stop → Type 0
-CertificateStops cert name told before now (Refused r) = (r ≡ certificate_refusal cert) × IfSome told (λ c. (ps : List Pair) → Proves c name ps → ⊥)
-CertificateStops cert name told before now ReadFault = Rose before now
-CertificateStops cert name told before now NoMemory = Unit {0}
+-- the first refusal is one of the files, whatever the certificate holds
+pub record SourcesRefused (tells : List ℕ → Option (List ℕ)) (files : List (List ℕ)) (r : Refusal) : Type 0 where
+  pub contents : List (List ℕ)
+  pub holds : EachHolds tells files contents
+  pub first : (name cert : List ℕ) → FirstRefusal (record { cert = name; files = files }) (record { sources = contents; cert = cert }) r
+
+-- what a file holds, as is told of it where something is
+pub record CertificateHeld (told : Option (List ℕ)) (Reads : List ℕ → Type 0) : Type 0 where
+  pub held : List ℕ
+  pub holds : IfSome told (λ t. held ≡ t)
+  pub reads : Reads held
+
+-- the certificate isn't of the form
+pub record CertificateRefusal (told : Option (List ℕ)) (cert name : List ℕ) (r : Refusal) : Type 0 where
+  pub is : r ≡ certificate_refusal cert
+  pub none : CertificateHeld told (λ c. (steps : List Pair) → Proves c name steps → ⊥)

@@ -1,96 +1,33 @@
 // A build, as far as the lines that are to be written.
 
-ghost use Rattle.std.specs.Prelude.{◌≡◌, ℕ, List, [], ◌≤◌, ◌<◌, length, take, IsTrue, IfOk, IfErr, IfSome, OnErr, MatchResult, MatchOption, Some, None};
+ghost use Rattle.std.specs.Prelude.{◌≡◌, ℕ, List, ◌≤◌, ◌<◌, ◌^◌, length, IsTrue, IfOk, IfErr, IfSome};
+ghost use Rattle.std.specs.List.{AllByRecursion};
 ghost use Rattle.vale_outside.specs.Outside.{Rose};
-ghost use Rattle.vale_driver.specs.Source.{IsStraight, Spells};
-ghost use Rattle.vale_driver.specs.Certificate.{Proves};
+ghost use Rattle.straight_line.specs.Form.{IsStraight};
+ghost use Rattle.vale_driver.specs.Certificate.{Pair, Proves};
 ghost use Rattle.vale_driver.specs.Ring.{ring_closes};
 ghost use Rattle.vale_driver.specs.Build.{condition_hyps, condition_goal};
 ghost use Rattle.vale_driver.specs.Assembly.{joined};
-ghost use Rattle.vale_driver.specs.Outcome.{Build, Told, IsBuilt, IsRefused, not_built, step_refusal};
-ghost use Rattle.vale_driver.specs.Stops.{Stops, Fetched, SourceStops, CertificateStops};
+ghost use Rattle.vale_driver.specs.Phases.{texts, build_of};
+ghost use Rattle.vale_driver.specs.Outcome.{IsBuilt, IsRefused, certificate_refusal, step_refusal};
+ghost use Rattle.vale_driver.specs.Stops.{StopsBy, CertificateHeld, CertificateRefusal};
 
-use crate::certificate::{Pair, read_certificate};
+use crate::certificate::{CertificateFault, Pair, read_certificate};
 use crate::condition::condition;
 use crate::gas::print;
 use crate::lower::lower;
 use crate::ring::ring_closes;
-use crate::source::{ReadFault, read_source};
+use crate::sources::read_sources;
 use crate::status::Refusal;
-use crate::straight::Straight;
-use std::alloc::{AllocError, AllocFailed, Global};
-use vale_outside::{FetchFault, Store};
+use crate::stop::{Stop, fetch, refusal};
+use crate::words::BuildWords;
+use std::alloc::{AllocError, Global};
+use straight_line::StraightLine;
+use vale_outside::Store;
 use x64_syntax::Text;
 
-/// The most bytes of a source and of a certificate.
-const SOURCE_LIMIT: usize = 1048576;
-
+/// The most bytes of a certificate.
 const CERTIFICATE_LIMIT: usize = 67108864;
-
-/// Why a build ends without a text.
-#[derive(Debug, Drop)]
-pub(crate) enum Stop {
-    Refused(Refusal),
-    ReadFault,
-    NoMemory,
-}
-
-impl From<AllocError> for Stop {
-    ghost use Rattle.std.specs.Prelude.{◌≡◌};
-    ghost use Rattle.vale_driver.specs.declared.build.Stop.TheVariants.{NoMemory};
-
-    ghost from_gives = { λ _ e. e ≡ NoMemory };
-
-    fn from(_fault: AllocError) -> Self {
-        Stop::NoMemory
-    }
-}
-
-impl<T: Drop> From<AllocFailed<T>> for Stop {
-    ghost use Rattle.std.specs.Prelude.{◌≡◌};
-    ghost use Rattle.vale_driver.specs.declared.build.Stop.TheVariants.{NoMemory};
-
-    ghost from_gives = { λ _ e. e ≡ NoMemory };
-
-    fn from(_fault: AllocFailed<T>) -> Self {
-        Stop::NoMemory
-    }
-}
-
-// What a file holds: none where it is longer than the limit.
-fn fetch<S: Store>(
-    alloc: Global,
-    store: &mut S,
-    name: &str,
-    limit: usize,
-) -> Result<Option<Vec<u8>>, Stop>
-    requires { IsTrue (S.may_ask store.old name.now) }
-    ensures fetched { Fetched (S.tells store.old name.now) limit (S.faults store.old) (S.faults store.new) result }
-    ensures count { S.faults store.old ≤ S.faults store.new }
-    ensures same_names { (n : List ℕ) → S.may_ask store.new n ≡ S.may_ask store.old n }
-    ensures same_files { (n : List ℕ) → S.tells store.new n ≡ S.tells store.old n }
-{
-    let mut bytes = Vec::new(alloc);
-    match store.fetch(name, limit, &mut bytes) {
-        Ok(()) => Ok(Some(bytes)),
-        Err(FetchFault::TooLong) => Ok(None),
-        Err(FetchFault::Failed) => Err(Stop::ReadFault),
-        Err(FetchFault::NoMemory) => Err(Stop::NoMemory),
-    }
-}
-
-// The refusal of a file of which the reading isn't built.
-fn not_built(alloc: Global, number: u8, file: &str, at: u64) -> Result<Refusal, AllocError>
-    ensures { IfOk result (λ r. r ≡ not_built number file.now at) }
-{
-    Ok(Refusal {
-        number,
-        file: Some(Text::from_slice(alloc, file.as_bytes())?),
-        at: Some(at),
-        who: None,
-        cause: Text::from_slice(alloc, b"NotBuilt")?,
-    })
-}
 
 // The refusal of the certificate's step.
 fn not_closed(alloc: Global, cert: &str, name: &[u8]) -> Result<Refusal, AllocError>
@@ -107,24 +44,11 @@ fn not_closed(alloc: Global, cert: &str, name: &[u8]) -> Result<Refusal, AllocEr
     })
 }
 
-// The source of a file.
-fn source_file<S: Store>(alloc: Global, store: &mut S, file: &str) -> Result<Straight, Stop>
-    requires { IsTrue (S.may_ask store.old file.now) }
-    ensures fits { IfOk result IsStraight }
-    ensures found { IfOk result (λ p. IfSome (S.tells store.old file.now) (λ s. Spells s p)) }
-    ensures stops { IfErr result (SourceStops file.now (S.tells store.old file.now) (S.faults store.old) (S.faults store.new)) }
-    ensures count { S.faults store.old ≤ S.faults store.new }
-    ensures same_names { (n : List ℕ) → S.may_ask store.new n ≡ S.may_ask store.old n }
-    ensures same_files { (n : List ℕ) → S.tells store.new n ≡ S.tells store.old n }
+// The refusal of a certificate that isn't of the form.
+fn no_certificate(alloc: Global, cert: &str) -> Result<Refusal, AllocError>
+    ensures { IfOk result (λ r. r ≡ certificate_refusal cert.now) }
 {
-    let Some(bytes) = fetch(alloc, store, file, SOURCE_LIMIT)? else {
-        return Err(Stop::Refused(not_built(alloc, 2, file, 0)?));
-    };
-    match read_source(alloc, &bytes) {
-        Ok(source) => Ok(source),
-        Err(ReadFault::NotOfForm) => Err(Stop::Refused(not_built(alloc, 2, file, 0)?)),
-        Err(ReadFault::NoMemory) => Err(Stop::NoMemory),
-    }
+    refusal(alloc, 9, cert, Some(1), b"NotBuilt")
 }
 
 // The steps of a certificate for a procedure of this name.
@@ -135,26 +59,26 @@ fn certificate_file<S: Store>(
     name: &[u8],
 ) -> Result<Vec<Pair>, Stop>
     requires { IsTrue (S.may_ask store.old cert.now) }
-    ensures found { IfOk result (λ v. IfSome (S.tells store.old cert.now) (λ c. Proves c name.now v.items)) }
-    ensures stops { IfErr result (CertificateStops cert.now name.now (S.tells store.old cert.now) (S.faults store.old) (S.faults store.new)) }
+    ensures found { IfOk result (λ v. CertificateHeld (S.tells store.old cert.now) (λ c. Proves c name.now v.items)) }
+    ensures stops { IfErr result (StopsBy (CertificateRefusal (S.tells store.old cert.now) cert.now name.now) (Rose (S.faults store.old) (S.faults store.new))) }
     ensures count { S.faults store.old ≤ S.faults store.new }
 {
     let Some(bytes) = fetch(alloc, store, cert, CERTIFICATE_LIMIT)? else {
-        return Err(Stop::Refused(not_built(alloc, 9, cert, 1)?));
+        return Err(Stop::Refused(no_certificate(alloc, cert)?));
     };
     match read_certificate(alloc, name, &bytes) {
         Ok(steps) => Ok(steps),
-        Err(ReadFault::NotOfForm) => Err(Stop::Refused(not_built(alloc, 9, cert, 1)?)),
-        Err(ReadFault::NoMemory) => Err(Stop::NoMemory),
+        Err(CertificateFault::NotOfForm) => Err(Stop::Refused(no_certificate(alloc, cert)?)),
+        Err(CertificateFault::NoMemory) => Err(Stop::NoMemory),
     }
 }
 
-// Whether the steps close the source's condition.
-fn closes(alloc: Global, source: &Straight, steps: &[Pair]) -> Result<bool, AllocError>
-    requires { IsStraight source.now }
-    ensures { IfOk result (λ yes. yes ≡ ring_closes (condition_hyps source.now) (condition_goal source.now) steps.now) }
+// Whether the steps close the procedure's condition.
+fn closes(alloc: Global, program: &StraightLine, steps: &[Pair]) -> Result<bool, AllocError>
+    requires { length program.now.instructions < 2 ^ 63 }
+    ensures { IfOk result (λ yes. yes ≡ ring_closes (condition_hyps program.now) (condition_goal program.now) steps.now) }
 {
-    let sequent = condition(alloc, source)?;
+    let sequent = condition(alloc, program)?;
     ring_closes(alloc, sequent.hyps.as_slice(), &sequent.goal, steps)
 }
 
@@ -162,21 +86,21 @@ fn closes(alloc: Global, source: &Straight, steps: &[Pair]) -> Result<bool, Allo
 pub(crate) fn build<S: Store>(
     alloc: Global,
     store: &mut S,
-    cert: &str,
-    file: &str,
+    words: BuildWords<'_>,
 ) -> Result<Vec<Text>, Stop>
-    requires cert { IsTrue (S.may_ask store.old cert.now) }
-    requires file { IsTrue (S.may_ask store.old file.now) }
-    ensures built { IfOk result (λ lines. IsBuilt record { source = S.tells store.old file.now; cert = S.tells store.old cert.now } (joined lines.items)) }
-    ensures stops { IfErr result (Stops record { cert = cert.now; file = file.now } record { source = S.tells store.old file.now; cert = S.tells store.old cert.now } (S.faults store.old) (S.faults store.new)) }
+    requires few { length words.files.now ≤ 16 }
+    requires cert { IsTrue (S.may_ask store.old words.cert.now) }
+    requires files { AllByRecursion (λ f. IsTrue (S.may_ask store.old f)) (texts words.files.now) }
+    ensures built { IfOk result (λ lines. IsBuilt (S.tells store.old) (build_of words.entry) (joined lines.items)) }
+    ensures stops { IfErr result (StopsBy (IsRefused (S.tells store.old) (build_of words.entry)) (Rose (S.faults store.old) (S.faults store.new))) }
     ensures count { S.faults store.old ≤ S.faults store.new }
 {
-    let source = source_file(alloc, store, file)?;
-    let steps = certificate_file(alloc, store, cert, source.name.as_bytes())?;
-    if !closes(alloc, &source, &steps)? {
-        let refusal = not_closed(alloc, cert, source.name.as_bytes())?;
+    let program = read_sources(alloc, store, words.files)?;
+    let steps = certificate_file(alloc, store, words.cert, program.name.as_bytes())?;
+    if !closes(alloc, &program, &steps)? {
+        let refusal = not_closed(alloc, words.cert, program.name.as_bytes())?;
         return Err(Stop::Refused(refusal));
     }
-    let items = lower(alloc, &source)?;
+    let items = lower(alloc, &program)?;
     Ok(print(alloc, &items)?)
 }

@@ -2,15 +2,43 @@
 
 ghost use Rattle.std.specs.Prelude.{◌≡◌, ◌≤◌, List, length, IfOk};
 ghost use Rattle.std.specs.Option.{option_copied, option_map};
-ghost use Rattle.vale_driver.specs.Source.{Reads};
-ghost use Rattle.vale_driver.specs.Certificate.{pair_at, more_at, with_pairs, begins_pair, pairs_at, opening_at, certificate_at, certificate_limit, Pair, Proves};
+ghost use Rattle.vale_driver.specs.Certificate.{pair_at, more_at, with_pairs, begins_pair, pairs_at, opening_at, certificate_at, certificate_limit, ends, Pair, Proves, Reads};
 
 use crate::reading::{after, number};
-use crate::source::{ReadFault, is_end};
-use std::alloc::Global;
+use std::alloc::{AllocError, AllocFailed, Global};
 
 /// The highest number that a hypothesis of a source can have: the last of 4,096 statements with five each.
 const HYPOTHESIS_LIMIT: u64 = 20479;
+
+/// Why a text gives no pairs.
+#[derive(Debug, Drop)]
+pub(crate) enum CertificateFault {
+    /// It isn't of the form.
+    NotOfForm,
+    NoMemory,
+}
+
+impl From<AllocError> for CertificateFault {
+    ghost use Rattle.std.specs.Prelude.{◌≡◌};
+    ghost use Rattle.vale_driver.specs.declared.certificate.CertificateFault.TheVariants.{NoMemory};
+
+    ghost from_gives = { λ _ e. e ≡ NoMemory };
+
+    fn from(_fault: AllocError) -> Self {
+        CertificateFault::NoMemory
+    }
+}
+
+impl<T: Drop> From<AllocFailed<T>> for CertificateFault {
+    ghost use Rattle.std.specs.Prelude.{◌≡◌};
+    ghost use Rattle.vale_driver.specs.declared.certificate.CertificateFault.TheVariants.{NoMemory};
+
+    ghost from_gives = { λ _ e. e ≡ NoMemory };
+
+    fn from(_fault: AllocFailed<T>) -> Self {
+        CertificateFault::NoMemory
+    }
+}
 
 /// A hypothesis's number, and the factor that it counts with.
 pub(crate) type Pair = (usize, u64);
@@ -21,28 +49,28 @@ pub(crate) fn read_certificate(
     alloc: Global,
     name: &[u8],
     bytes: &[u8],
-) -> Result<Vec<Pair>, ReadFault>
+) -> Result<Vec<Pair>, CertificateFault>
     ensures found { IfOk result (λ v. length bytes.now ≤ certificate_limit → Proves bytes.now name.now v.items) }
-    ensures refused { result ≡ Err ReadFault.NotOfForm → (ps : List Pair) → Proves bytes.now name.now ps → ⊥ }
+    ensures refused { result ≡ Err CertificateFault.NotOfForm → (ps : List Pair) → Proves bytes.now name.now ps → ⊥ }
 {
     pairs_of(alloc, name, bytes)
 }
 
 #[tactic(auto, unfolding(crate::specs::Certificate::certificate_at))]
-fn pairs_of(alloc: Global, name: &[u8], bytes: &[u8]) -> Result<Vec<Pair>, ReadFault>
+fn pairs_of(alloc: Global, name: &[u8], bytes: &[u8]) -> Result<Vec<Pair>, CertificateFault>
     ensures { Reads (λ v. v.items) (certificate_at name.now bytes.now) result }
 {
     let Some(rest) = opening(name, bytes) else {
-        return Err(ReadFault::NotOfForm);
+        return Err(CertificateFault::NotOfForm);
     };
     let (pairs, rest) = read_pairs(alloc, rest)?;
     let Some(rest) = after(rest, b"]]") else {
-        return Err(ReadFault::NotOfForm);
+        return Err(CertificateFault::NotOfForm);
     };
     if is_end(rest) {
         Ok(pairs)
     } else {
-        Err(ReadFault::NotOfForm)
+        Err(CertificateFault::NotOfForm)
     }
 }
 
@@ -56,7 +84,7 @@ fn opening<'a>(name: &[u8], bytes: &'a [u8]) -> Option<&'a [u8]>
 }
 
 #[tactic(auto, unfolding(crate::specs::Certificate::pairs_at))]
-fn read_pairs(alloc: Global, bytes: &[u8]) -> Result<(Vec<Pair>, &[u8]), ReadFault>
+fn read_pairs(alloc: Global, bytes: &[u8]) -> Result<(Vec<Pair>, &[u8]), CertificateFault>
     ensures { Reads (λ x. (x.0.items, x.1.now)) (pairs_at bytes.now) result }
 {
     let mut pairs = Vec::new(alloc);
@@ -64,14 +92,14 @@ fn read_pairs(alloc: Global, bytes: &[u8]) -> Result<(Vec<Pair>, &[u8]), ReadFau
         return Ok((pairs, bytes));
     }
     let Some((first, rest)) = pair(bytes) else {
-        return Err(ReadFault::NotOfForm);
+        return Err(CertificateFault::NotOfForm);
     };
     pairs.push(first)?;
     more_pairs(pairs, rest)
 }
 
 // Further pairs, each behind a comma.
-fn more_pairs(first: Vec<Pair>, bytes: &[u8]) -> Result<(Vec<Pair>, &[u8]), ReadFault>
+fn more_pairs(first: Vec<Pair>, bytes: &[u8]) -> Result<(Vec<Pair>, &[u8]), CertificateFault>
     ensures { Reads (λ x. (x.0.items, x.1.now)) (with_pairs first.items (more_at (length bytes.now) bytes.now)) result }
 {
     let mut pairs = first;
@@ -81,7 +109,7 @@ fn more_pairs(first: Vec<Pair>, bytes: &[u8]) -> Result<(Vec<Pair>, &[u8]), Read
             return Ok((pairs, rest));
         };
         let Some((next, behind)) = pair(behind) else {
-            return Err(ReadFault::NotOfForm);
+            return Err(CertificateFault::NotOfForm);
         };
         pairs.push(next)?;
         rest = behind;
@@ -111,5 +139,16 @@ fn pair(bytes: &[u8]) -> Option<(Pair, &[u8])>
         Some(((hypothesis as usize, factor), rest))
     } else {
         None
+    }
+}
+
+// Whether nothing is left but a newline that may lack.
+fn is_end(bytes: &[u8]) -> bool
+    ensures { result ≡ ends bytes.now }
+{
+    match bytes {
+        [] => true,
+        [only] => *only == b'\n',
+        _ => false,
     }
 }

@@ -1,21 +1,24 @@
-// The condition of a source: the equations of its instructions, over numbered versions of places, and what is to follow.
+// The condition of a procedure: the equations of its instructions, over numbered versions of places, and what is to follow.
 
-ghost use Rattle.std.specs.Prelude.{◌≡◌, ◌<◌, ◌+◌, ◌^◌, ◌++◌, ◌∷◌, [], pos, length, IfOk, OnOk};
+ghost use Rattle.std.specs.Prelude.{◌≡◌, ◌<◌, ◌+◌, ◌^◌, ◌++◌, pos, length, map, IfOk, OnOk};
+ghost use Rattle.x64_syntax.specs.declared.places.Place.{Place as APlace};
+ghost use Rattle.x64_syntax.specs.declared.places.Place.TheVariants as place;
 ghost use Rattle.term_core.specs.declared.term.BinOp.TheVariants as bin;
-ghost use Rattle.term_core.specs.declared.term.UnOp.TheVariants as un;
 ghost use Rattle.term_core.specs.Terms.{tree, trees};
 ghost use Rattle.term_core.specs.Terms as tm;
-ghost use Rattle.x64_meaning.specs.Table.{word_of};
-ghost use Rattle.x64_meaning.specs.Condition.{version};
-ghost use Rattle.vale_driver.specs.Addition.{sum_term, carry_term, zero_term, sign_term, overflow_term, addition_terms, promise_term};
-ghost use Rattle.vale_driver.specs.Build.{statement_hyps, hyps_from, condition_hyps, condition_goal};
+ghost use Rattle.x64_meaning.specs.Exp.{Before, After};
+ghost use Rattle.x64_meaning.specs.Table.{source, equations};
+ghost use Rattle.x64_meaning.specs.Condition.{hypothesis, straight_hyps, first_versions, end_versions};
+ghost use Rattle.vale_driver.specs.Terms.{present, term, move_term, sum_term, carry_term, zero_term, sign_term, overflow_term, addition_terms, promise_term};
+ghost use Rattle.vale_driver.specs.Build.{condition_hyps, condition_goal};
 
-use crate::straight::Straight;
+use crate::versions::Versions;
 use sqlite_items::{Boxed, Items};
 use std::alloc::{AllocError as NoMemory, Global};
+use straight_line::{Promise, StraightLine};
 use term_core::{BinOp, Sequent, Term, UnOp};
 use x64_meaning::version;
-use x64_syntax::{FlagName, Place, Reg};
+use x64_syntax::{AluOp, FlagName, Ins, Opr, Place, Reg};
 
 /// 2^64, from which a sum of words carries, and 2^63, from which a word is negative.
 const CARRIES_FROM: i128 = 1 << 64;
@@ -54,64 +57,91 @@ fn reaches(alloc: Global, bound: i128, a: Term) -> Result<Term, NoMemory>
     one_if(alloc, test)
 }
 
-/// One statement: what it adds, as a word, to which register, and which version the places have before it.
-#[derive(Clone, Copy)]
-struct Addition {
-    register: Reg,
-    amount: u64,
-    version: u64,
-    ghost next_fits: { version + 1 < 2 ^ 64 },
+// A source operand's value before the instruction. What is loaded stands for 0: no instruction of the form loads.
+fn source(alloc: Global, versions: &Versions, s: &Opr) -> Result<Term, NoMemory>
+    ensures { IfOk result (λ t. tree t ≡ term (present versions.now) (source s.now)) }
+{
+    match s {
+        Opr::R(r) => version(alloc, Place::Reg(*r), versions.register(*r)),
+        Opr::Imm(n) => Ok(Term::W64(n.cast_unsigned())),
+        Opr::M(_) => Ok(Term::W64(0)),
+    }
 }
 
-impl Addition {
-    // The register before and after, and the amount.
+/// The versions before an instruction, and the register that it writes.
+#[derive(Clone, Copy)]
+struct Written<'a> {
+    d: Reg,
+    versions: &'a Versions,
+    ghost register_fits: { present versions.now (place.Reg d) + 1 < 2 ^ 64 },
+    ghost flags_fit: { versions.now.flags + 1 < 2 ^ 64 },
+}
+
+impl<'a> Written<'a> {
+    // The register before and after.
     fn before(&self, alloc: Global) -> Result<Term, NoMemory>
-        ensures { IfOk result (λ t. tree t ≡ version (Place.Reg self.now.register) self.now.version) }
+        ensures { IfOk result (λ t. tree t ≡ term (present self.now.versions.now) (Before (place.Reg self.now.d))) }
     {
-        version(alloc, Place::Reg(self.register), self.version)
+        version(alloc, Place::Reg(self.d), self.versions.register(self.d))
     }
 
     fn after(&self, alloc: Global) -> Result<Term, NoMemory>
-        ensures { IfOk result (λ t. tree t ≡ version (Place.Reg self.now.register) (self.now.version + 1)) }
+        ensures { IfOk result (λ t. tree t ≡ term (present self.now.versions.now) (After (place.Reg self.now.d))) }
     {
-        version(alloc, Place::Reg(self.register), self.version + 1)
+        version(
+            alloc,
+            Place::Reg(self.d),
+            self.versions.register(self.d) + 1,
+        )
     }
 
     fn flag(&self, alloc: Global, flag: FlagName) -> Result<Term, NoMemory>
-        ensures { IfOk result (λ t. tree t ≡ version (Place.Flag flag) (self.now.version + 1)) }
+        ensures { IfOk result (λ t. tree t ≡ term (present self.now.versions.now) (After (place.Flag flag))) }
     {
-        version(alloc, Place::Flag(flag), self.version + 1)
+        version(alloc, Place::Flag(flag), self.versions.flags() + 1)
+    }
+
+    // The register is the source.
+    #[tactic(auto, unfolding(crate::specs::Terms::move_term))]
+    fn moved(&self, alloc: Global, s: &Opr) -> Result<Term, NoMemory>
+        ensures { IfOk result (λ t. tree t ≡ move_term (present self.now.versions.now) self.now.d s.now) }
+    {
+        let after = self.after(alloc)?;
+        let source = source(alloc, self.versions, s)?;
+        binary(alloc, BinOp::Eq, after, source)
     }
 
     // The register is the sum.
-    #[tactic(auto, unfolding(crate::specs::Addition::sum_term))]
-    fn sum(&self, alloc: Global) -> Result<Term, NoMemory>
-        ensures { IfOk result (λ t. tree t ≡ sum_term self.now.register self.now.amount self.now.version) }
+    #[tactic(auto, unfolding(crate::specs::Terms::sum_term))]
+    fn sum(&self, alloc: Global, s: &Opr) -> Result<Term, NoMemory>
+        ensures { IfOk result (λ t. tree t ≡ sum_term (present self.now.versions.now) self.now.d s.now) }
     {
         let after = self.after(alloc)?;
         let before = self.before(alloc)?;
-        let sum = binary(alloc, BinOp::Add, before, Term::W64(self.amount))?;
+        let source = source(alloc, self.versions, s)?;
+        let sum = binary(alloc, BinOp::Add, before, source)?;
         binary(alloc, BinOp::Eq, after, sum)
     }
 
     // The carry flag is whether the sum of the numbers reaches 2^64.
-    #[tactic(auto, unfolding(crate::specs::Addition::carry_term))]
-    fn carry(&self, alloc: Global) -> Result<Term, NoMemory>
-        ensures { IfOk result (λ t. tree t ≡ carry_term self.now.register self.now.amount self.now.version) }
+    #[tactic(auto, unfolding(crate::specs::Terms::carry_term))]
+    fn carry(&self, alloc: Global, s: &Opr) -> Result<Term, NoMemory>
+        ensures { IfOk result (λ t. tree t ≡ carry_term (present self.now.versions.now) self.now.d s.now) }
     {
         let flag = self.flag(alloc, FlagName::Cf)?;
         let before = self.before(alloc)?;
         let a = unary(alloc, UnOp::Int, before)?;
-        let b = unary(alloc, UnOp::Int, Term::W64(self.amount))?;
+        let source = source(alloc, self.versions, s)?;
+        let b = unary(alloc, UnOp::Int, source)?;
         let sum = binary(alloc, BinOp::Add, a, b)?;
         let carries = reaches(alloc, CARRIES_FROM, sum)?;
         binary(alloc, BinOp::Eq, flag, carries)
     }
 
     // The zero flag is whether the register is 0.
-    #[tactic(auto, unfolding(crate::specs::Addition::zero_term))]
+    #[tactic(auto, unfolding(crate::specs::Terms::zero_term))]
     fn zero(&self, alloc: Global) -> Result<Term, NoMemory>
-        ensures { IfOk result (λ t. tree t ≡ zero_term self.now.register self.now.version) }
+        ensures { IfOk result (λ t. tree t ≡ zero_term (present self.now.versions.now) self.now.d) }
     {
         let flag = self.flag(alloc, FlagName::Zf)?;
         let after = self.after(alloc)?;
@@ -121,9 +151,9 @@ impl Addition {
     }
 
     // The sign flag is whether the register's highest bit is set.
-    #[tactic(auto, unfolding(crate::specs::Addition::sign_term))]
+    #[tactic(auto, unfolding(crate::specs::Terms::sign_term))]
     fn sign(&self, alloc: Global) -> Result<Term, NoMemory>
-        ensures { IfOk result (λ t. tree t ≡ sign_term self.now.register self.now.version) }
+        ensures { IfOk result (λ t. tree t ≡ sign_term (present self.now.versions.now) self.now.d) }
     {
         let flag = self.flag(alloc, FlagName::Sf)?;
         let after = self.after(alloc)?;
@@ -133,13 +163,13 @@ impl Addition {
     }
 
     // The overflow flag is whether the sum's sign differs from both signs.
-    #[tactic(auto, unfolding(crate::specs::Addition::overflow_term))]
-    fn overflow(&self, alloc: Global) -> Result<Term, NoMemory>
-        ensures { IfOk result (λ t. tree t ≡ overflow_term self.now.register self.now.amount self.now.version) }
+    #[tactic(auto, unfolding(crate::specs::Terms::overflow_term))]
+    fn overflow(&self, alloc: Global, s: &Opr) -> Result<Term, NoMemory>
+        ensures { IfOk result (λ t. tree t ≡ overflow_term (present self.now.versions.now) self.now.d s.now) }
     {
         let flag = self.flag(alloc, FlagName::Of)?;
         let left = self.changed_from(alloc, self.before(alloc)?)?;
-        let right = self.changed_from(alloc, Term::W64(self.amount))?;
+        let right = self.changed_from(alloc, source(alloc, self.versions, s)?)?;
         let both = binary(alloc, BinOp::And, left, right)?;
         let number = unary(alloc, UnOp::Int, both)?;
         let overflows = reaches(alloc, NEGATIVE_FROM, number)?;
@@ -148,66 +178,95 @@ impl Addition {
 
     // The bits in which a term and the register after it differ.
     fn changed_from(&self, alloc: Global, from: Term) -> Result<Term, NoMemory>
-        ensures { IfOk result (λ t. tree t ≡ tm.Bin bin.Xor (tree from) (version (Place.Reg self.now.register) (self.now.version + 1))) }
+        ensures { IfOk result (λ t. tree t ≡ tm.Bin bin.Xor (tree from) (term (present self.now.versions.now) (After (place.Reg self.now.d)))) }
     {
         let after = self.after(alloc)?;
         binary(alloc, BinOp::Xor, from, after)
     }
 
-    // Appends the statement's equations.
-    fn push_equations(&self, alloc: Global, hyps: &mut Items<Term>) -> Result<(), NoMemory>
-        ensures { OnOk result (trees hyps.new ≡ trees hyps.old ++ addition_terms self.now.register self.now.amount self.now.version) }
+    // Appends the equations of an addition.
+    fn push_addition(&self, alloc: Global, s: &Opr, hyps: &mut Items<Term>) -> Result<(), NoMemory>
+        ensures { OnOk result (trees hyps.new ≡ trees hyps.old ++ addition_terms (present self.now.versions.now) self.now.d s.now) }
     {
-        hyps.push(self.sum(alloc)?)?;
-        hyps.push(self.carry(alloc)?)?;
+        hyps.push(self.sum(alloc, s)?)?;
+        hyps.push(self.carry(alloc, s)?)?;
         hyps.push(self.zero(alloc)?)?;
         hyps.push(self.sign(alloc)?)?;
-        hyps.push(self.overflow(alloc)?)?;
+        hyps.push(self.overflow(alloc, s)?)?;
         Ok(())
     }
 }
 
-// Appends the equations of all statements.
-fn push_hypotheses(
+// Appends the equations of an instruction.
+fn push_instruction(
     alloc: Global,
+    versions: &Versions,
+    ins: &Ins,
     hyps: &mut Items<Term>,
-    register: Reg,
-    amounts: &[i64],
 ) -> Result<(), NoMemory>
-    requires { length amounts.now < 2 ^ 63 }
-    ensures { OnOk result (trees hyps.new ≡ trees hyps.old ++ hyps_from register amounts.now 0) }
+    requires { (p : APlace) → present versions.now p + 1 < 2 ^ 64 }
+    ensures { OnOk result (trees hyps.new ≡ trees hyps.old ++ map (hypothesis (present versions.now)) (equations ins.now)) }
 {
-    for (i, amount) in amounts.iter().enumerate() {
-        let addition = Addition {
-            register,
-            amount: amount.cast_unsigned(),
-            version: i as u64,
-        };
-        addition.push_equations(alloc, hyps)?;
+    match ins {
+        Ins::Mov { d, s } => {
+            let written = Written { d: *d, versions };
+            hyps.push(written.moved(alloc, s)?)?;
+            Ok(())
+        }
+        Ins::Alu {
+            op: AluOp::Add,
+            d,
+            s,
+        } => {
+            let written = Written { d: *d, versions };
+            written.push_addition(alloc, s, hyps)
+        }
     }
-    Ok(())
 }
 
-/// The condition of a source.
-pub(crate) fn condition(alloc: Global, source: &Straight) -> Result<Sequent, NoMemory>
-    requires { length source.now.amounts < 2 ^ 63 }
-    ensures hyps { IfOk result (λ s. trees s.hyps ≡ condition_hyps source.now) }
-    ensures goal { IfOk result (λ s. tree s.goal ≡ condition_goal source.now) }
+// Appends the equations of all instructions, and gives the versions at the end.
+fn push_hypotheses(
+    alloc: Global,
+    instructions: &[Ins],
+    hyps: &mut Items<Term>,
+) -> Result<Versions, NoMemory>
+    requires { length instructions.now < 2 ^ 63 }
+    ensures hyps { OnOk result (trees hyps.new ≡ trees hyps.old ++ straight_hyps instructions.now) }
+    ensures last { IfOk result (λ v. present v ≡ end_versions first_versions instructions.now) }
 {
-    let amounts = source.amounts.as_slice();
+    let mut versions = Versions::first();
+    for ins in instructions {
+        push_instruction(alloc, &versions, ins, hyps)?;
+        versions.pass(ins);
+    }
+    Ok(versions)
+}
+
+/// The condition of a procedure.
+pub(crate) fn condition(alloc: Global, program: &StraightLine) -> Result<Sequent, NoMemory>
+    requires { length program.now.instructions < 2 ^ 63 }
+    ensures hyps { IfOk result (λ s. trees s.hyps ≡ condition_hyps program.now) }
+    ensures goal { IfOk result (λ s. tree s.goal ≡ condition_goal program.now) }
+{
     let mut hyps = Items::new(alloc);
-    push_hypotheses(alloc, &mut hyps, source.register, amounts)?;
-    let goal = promise(alloc, source.register, source.total, amounts.len() as u64)?;
+    let last = push_hypotheses(alloc, program.instructions.as_slice(), &mut hyps)?;
+    let goal = promise(alloc, &last, program.promise)?;
     Ok(Sequent { hyps, goal })
 }
 
-// The register's last version is its first and the total more.
-#[tactic(auto, unfolding(crate::specs::Addition::promise_term))]
-fn promise(alloc: Global, register: Reg, total: u64, last: u64) -> Result<Term, NoMemory>
-    ensures { IfOk result (λ t. tree t ≡ promise_term register total last) }
+// What the register of the promise holds at the end, and what it is to hold.
+#[tactic(auto, unfolding(crate::specs::Terms::promise_term))]
+fn promise(alloc: Global, last: &Versions, promise: Promise) -> Result<Term, NoMemory>
+    ensures { IfOk result (λ t. tree t ≡ promise_term (present last.now) promise) }
 {
-    let end = version(alloc, Place::Reg(register), last)?;
-    let begin = version(alloc, Place::Reg(register), 0)?;
-    let sum = binary(alloc, BinOp::Add, begin, Term::W64(total))?;
-    binary(alloc, BinOp::Eq, end, sum)
+    let (reg, wanted) = match promise {
+        Promise::Constant(reg, k) => (reg, Term::W64(k)),
+        Promise::Old(reg, old) => (reg, version(alloc, Place::Reg(old), 0)?),
+        Promise::Sum(reg, old, k) => {
+            let begin = version(alloc, Place::Reg(old), 0)?;
+            (reg, binary(alloc, BinOp::Add, begin, Term::W64(k))?)
+        }
+    };
+    let end = version(alloc, Place::Reg(reg), last.register(reg))?;
+    binary(alloc, BinOp::Eq, end, wanted)
 }

@@ -1,4 +1,4 @@
-//! The program: it reads a source and a certificate, checks that the one proves the other, and writes assembler text.
+//! The program: it reads sources and a certificate, checks that the one proves the other, and writes assembler text.
 #![tactic(auto)]
 
 mod build;
@@ -10,11 +10,13 @@ mod program;
 mod reading;
 mod report;
 mod ring;
-mod source;
+mod sources;
 mod status;
-mod straight;
+mod stop;
+#[cfg(test)]
+mod tests;
+mod versions;
 mod words;
 
 pub use program::run;
 pub use status::{Refusal, Status};
-pub use straight::Straight;

@@ -1,34 +1,32 @@
 // The words of the command line.
 
-ghost use Rattle.std.specs.Prelude.{◌≡◌, [], ◌∷◌};
+ghost use Rattle.std.specs.Prelude.{◌≡◌, ◌≤◌, length, IfSome};
 ghost use Rattle.std.specs.Option.{option_map};
-ghost use Rattle.vale_driver.specs.Outcome.{form, files, is_build, is_value};
-ghost use Rattle.vale_driver.specs.Ends.{texts, build_of};
+ghost use Rattle.vale_driver.specs.Outcome.{form, is_build, is_value, are_files};
+ghost use Rattle.vale_driver.specs.Phases.{texts, build_of};
+
+/// The most source files.
+const FILE_LIMIT: usize = 16;
 
 /// The files that a build's words name.
 #[derive(Clone, Copy)]
 pub(crate) struct BuildWords<'a> {
     pub(crate) cert: &'a str,
-    pub(crate) file: &'a str,
+    pub(crate) files: &'a [String],
 }
 
-/// The build that the words ask for: exactly `build --syntax gas --cert CERT FILE`.
+/// The build that the words ask for: exactly `build --syntax gas --cert CERT FILE..`, with 1 to 16 files.
 pub(crate) fn read_words(words: &[String]) -> Option<BuildWords<'_>>
-    ensures { option_map build_of result ≡ form (texts words.now) }
+    ensures form { option_map build_of result ≡ form (texts words.now) }
+    ensures few { IfSome result (λ b. length b.files.now ≤ 16) }
 {
-    match words {
-        [command, syntax, gas, option, cert, file] => {
-            if !is_build(
-                command.as_str(),
-                syntax.as_str(),
-                gas.as_str(),
-                option.as_str(),
-            ) {
-                return None;
-            }
-            files(cert.as_str(), file.as_str())
-        }
-        _ => None,
+    let [command, syntax, gas, option, cert, files @ ..] = words else {
+        return None;
+    };
+    if is_build(command, syntax, gas, option) && is_value(cert) && are_files(files) {
+        Some(BuildWords { cert, files })
+    } else {
+        None
     }
 }
 
@@ -41,14 +39,18 @@ fn is_build(command: &str, syntax: &str, gas: &str, option: &str) -> bool
     gas == "gas" && option == "--cert"
 }
 
-fn files<'a>(cert: &'a str, file: &'a str) -> Option<BuildWords<'a>>
-    ensures { option_map build_of result ≡ files cert.now file.now }
+fn are_files(files: &[String]) -> bool
+    ensures { result ≡ are_files (texts files.now) }
 {
-    if is_value(cert) && is_value(file) {
-        Some(BuildWords { cert, file })
-    } else {
-        None
+    if files.is_empty() || FILE_LIMIT < files.len() {
+        return false;
     }
+    for file in files {
+        if !is_value(file) {
+            return false;
+        }
+    }
+    true
 }
 
 // Whether a word can be an option's value or a file's name.

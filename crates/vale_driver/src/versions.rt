@@ -1,0 +1,64 @@
+// How often the places were written so far.
+
+ghost use Rattle.std.specs.Prelude.{◌≡◌, ◌+◌, ◌<◌, ◌^◌, ◌∷◌, []};
+ghost use Rattle.x64_syntax.specs.declared.places.Place.{Place as APlace};
+ghost use Rattle.x64_syntax.specs.declared.places.Place.TheVariants as place;
+ghost use Rattle.x64_meaning.specs.Table.{writes};
+ghost use Rattle.x64_meaning.specs.Condition.{first_versions, next_versions};
+ghost use Rattle.vale_driver.specs.Terms.{present};
+
+use x64_syntax::{Ins, Reg};
+
+/// The present version of each place: how often it was written. The instructions so far write all flags or none.
+#[derive(Drop)]
+pub(crate) struct Versions {
+    registers: [u64; 16],
+    flags: u64,
+}
+
+impl Versions {
+    /// The versions before the first instruction.
+    pub(crate) fn first() -> Self
+        ensures { present result ≡ first_versions }
+    {
+        Versions {
+            registers: [0; 16],
+            flags: 0,
+        }
+    }
+
+    /// The version of a register.
+    pub(crate) fn register(&self, reg: Reg) -> u64
+        ensures { result ≡ present self.now (place.Reg reg) }
+    {
+        self.registers[reg.number()]
+    }
+
+    /// The version of the flags.
+    pub(crate) fn flags(&self) -> u64
+        ensures { result ≡ self.now.flags }
+    {
+        self.flags
+    }
+
+    /// Goes on to the versions behind an instruction.
+    pub(crate) fn pass(&mut self, ins: &Ins)
+        requires { (p : APlace) → present self.old p + 1 < 2 ^ 64 }
+        ensures { present self.new ≡ next_versions (present self.old) (writes ins.now) }
+    {
+        match ins {
+            Ins::Mov { d, .. } => self.write(*d),
+            Ins::Alu { d, .. } => {
+                self.write(*d);
+                self.flags += 1;
+            }
+        }
+    }
+
+    fn write(&mut self, reg: Reg)
+        requires { present self.old (place.Reg reg) + 1 < 2 ^ 64 }
+        ensures { present self.new ≡ next_versions (present self.old) (place.Reg reg ∷ []) }
+    {
+        self.registers[reg.number()] += 1;
+    }
+}
