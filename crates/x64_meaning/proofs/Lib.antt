@@ -3,3 +3,4 @@ pub mod Exps
 pub mod Apply
 pub mod Names
 pub mod Straight
+pub mod Forms

@@ -13,6 +13,7 @@ use Rattle.x64_syntax.specs.declared.instructions.AluOp.{AluOp}
 use Rattle.x64_syntax.specs.declared.instructions.AluOp.TheVariants.{Add}
 use Rattle.x64_syntax.specs.declared.instructions.Ins.{Ins}
 use Rattle.x64_syntax.specs.declared.instructions.Ins.TheVariants.{Mov, Alu}
+use Rattle.x64_syntax.specs.Instructions.{index_registers}
 use Rattle.term_core.specs.declared.term.Sort.TheVariants as sort
 use Rattle.term_core.specs.declared.term.UnOp.TheVariants as un
 use Rattle.term_core.specs.declared.term.BinOp.TheVariants as bin
@@ -97,6 +98,11 @@ operand_memory _ = None
 abbrev pub loads_from : Ins → Option Mem
 loads_from (Mov d s) = operand_memory s
 loads_from (Alu op d s) = operand_memory s
+
+-- the base and index registers of the memory operand
+abbrev pub memory_places : Option Mem → List Place
+memory_places None = []
+memory_places (Some m) = map Reg (m.base ∷ index_registers m.index)
 
 -- The state after some of the equations: each is read over the state before all of them and the state so far.
 abbrev pub apply : State → Val → List Equation → State → State

@@ -6,6 +6,6 @@ mod laws;
 mod machine;
 mod versions;
 
-pub use laws::straight_code;
+pub use laws::{forms_as_in_the_table, straight_code};
 pub use machine::{Fault, Flag, Obs};
 pub use versions::{place_sort, version, version_name};

@@ -1,6 +1,7 @@
 // Sets of places.
 
 ghost use Rattle.std.specs.Prelude.{◌≡◌, ◌<◌, ◌||◌, false};
+ghost use Rattle.x64_syntax.specs.declared.places.Place.{Place as APlace};
 ghost use Rattle.x64_syntax.specs.Places.{place_eq};
 ghost use Rattle.x64_syntax.specs.PlaceSets.{has_bit, in_set};
 
@@ -32,6 +33,20 @@ impl PlaceSet {
             Place::Xmm(xmm) => has_bit(self.xmms, xmm.number()),
             Place::Flag(flag) => has_bit(u16::from(self.flags), flag.number()),
         }
+    }
+
+    /// The set with one more place.
+    #[tactic(auto, using(crate::proofs::PlaceLemmas::reg_number_lt, crate::proofs::PlaceLemmas::xmm_number_lt, crate::proofs::PlaceLemmas::flag_number_lt))]
+    pub fn with(self, place: Place) -> PlaceSet
+        ensures { (p : APlace) → in_set result p ≡ (place_eq p place || in_set self p) }
+    {
+        let mut set = self;
+        match place {
+            Place::Reg(reg) => set.regs |= 1 << reg.number(),
+            Place::Xmm(xmm) => set.xmms |= 1 << xmm.number(),
+            Place::Flag(flag) => set.flags |= 1 << flag.number(),
+        }
+        set
     }
 }
 

@@ -1,0 +1,62 @@
+-- Programs: flat code in pieces, each under the name of an export.
+use Rattle.std.specs.Prelude.{ℕ, ◌+◌, Bool, true, false, not, ◌&&◌, ◌||◌, ◌==◌, is_ok, List, [], ◌∷◌}
+use Rattle.std.specs.List.{list_all}
+use Rattle.std.specs.Str.{bytes_eq}
+use Rattle.x64_syntax.specs.declared.items.Item.{Item}
+use Rattle.x64_syntax.specs.declared.items.Item.TheVariants as item
+use Rattle.x64_syntax.specs.Words.{is_export_text}
+use Rattle.x64_syntax.specs.Instructions.{form_of}
+
+-- code begins with an entry
+abbrev pub begins_with_entry : List Item → Bool
+begins_with_entry [] = true
+begins_with_entry (item.Entry name ∷ is) = true
+begins_with_entry (_ ∷ is) = false
+
+-- an entry of this name is among the items
+abbrev pub has_entry : List ℕ → List Item → Bool
+has_entry name [] = false
+has_entry name (item.Entry other ∷ is) = bytes_eq name other || has_entry name is
+has_entry name (_ ∷ is) = has_entry name is
+
+-- the names of entries are told apart
+abbrev pub entries_differ : List Item → Bool
+entries_differ [] = true
+entries_differ (item.Entry name ∷ is) = not (has_entry name is) && entries_differ is
+entries_differ (_ ∷ is) = entries_differ is
+
+-- an instruction of the machine, or an entry under a name that an export may have
+abbrev pub is_item : Item → Bool
+is_item (item.Ins i) = is_ok (form_of i)
+is_item (item.Entry name) = is_export_text name
+is_item _ = true
+
+-- labels in the order of the code are k, k + 1, ..
+abbrev pub labels_from : ℕ → List Item → Bool
+labels_from k [] = true
+labels_from k (item.Label l ∷ is) = (l == k) && labels_from (k + 1) is
+labels_from k (_ ∷ is) = labels_from k is
+
+-- the items as far as the next entry
+abbrev pub piece : List Item → List Item
+piece [] = []
+piece (item.Entry name ∷ is) = []
+piece (i ∷ is) = i ∷ piece is
+
+abbrev pub has_label : ℕ → List Item → Bool
+has_label l [] = false
+has_label l (item.Label m ∷ is) = (l == m) || has_label l is
+has_label l (_ ∷ is) = has_label l is
+
+-- each jump's label is in its own piece; the first argument is the piece at hand
+abbrev pub jumps_stay : List Item → List Item → Bool
+jumps_stay p [] = true
+jumps_stay p (item.Entry name ∷ is) = jumps_stay (piece is) is
+jumps_stay p (item.Jmp l ∷ is) = has_label l p && jumps_stay p is
+jumps_stay p (item.Jcc c l ∷ is) = has_label l p && jumps_stay p is
+jumps_stay p (_ ∷ is) = jumps_stay p is
+
+abbrev pub program_ok : List Item → Bool
+program_ok is =
+    (begins_with_entry is && entries_differ is)
+    && (list_all is_item is && (labels_from 0 is && jumps_stay (piece is) is))

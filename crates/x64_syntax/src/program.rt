@@ -1,0 +1,208 @@
+// Whole programs of flat code.
+
+ghost use Rattle.std.specs.Prelude.{◌≡◌, ◌≤◌, true, length};
+ghost use Rattle.std.specs.List.{list_all};
+ghost use Rattle.x64_syntax.specs.Programs.{begins_with_entry, has_entry, entries_differ, is_item, labels_from, piece, jumps_stay, program_ok};
+ghost use Rattle.x64_syntax.specs.LabelCount.{label_count};
+
+use crate::forms::ins_ok;
+use crate::items::Item;
+use crate::words::is_export_name;
+
+fn begins_with_entry(items: &[Item]) -> bool
+    ensures { result ≡ begins_with_entry items.now }
+{
+    match items {
+        [] | [Item::Entry(_), ..] => true,
+        _ => false,
+    }
+}
+
+fn has_entry(name: &[u8], items: &[Item]) -> bool
+    ensures { result ≡ has_entry name.now items.now }
+{
+    for item in items {
+        if let Item::Entry(other) = item {
+            if name == other.as_bytes() {
+                return true;
+            }
+        }
+    }
+    false
+}
+
+fn entries_differ(items: &[Item]) -> bool
+    ensures { result ≡ entries_differ items.now }
+{
+    for (k, item) in items.iter().enumerate() {
+        if let Item::Entry(name) = item {
+            if has_entry(name.as_bytes(), items.split_at(k + 1).1) {
+                return false;
+            }
+        }
+    }
+    true
+}
+
+fn is_item(item: &Item) -> bool
+    ensures { result ≡ is_item item.now }
+{
+    match item {
+        Item::Ins(ins) => ins_ok(ins).is_ok(),
+        Item::Entry(name) => is_export_name(name.as_bytes()),
+        Item::Label(_) | Item::Jmp(_) | Item::Jcc(_, _) | Item::Ret => true,
+    }
+}
+
+fn are_items(items: &[Item]) -> bool
+    ensures { result ≡ list_all is_item items.now }
+{
+    for item in items {
+        if !is_item(item) {
+            return false;
+        }
+    }
+    true
+}
+
+fn are_labels_in_order(items: &[Item]) -> bool
+    ensures { result ≡ labels_from 0 items.now }
+{
+    let mut next = 0u64;
+    for item in items {
+        if let Item::Label(label) = item {
+            if u64::from(*label) != next {
+                return false;
+            }
+            next += 1;
+        }
+    }
+    true
+}
+
+// How many labels there are as far as the next entry.
+fn labels_in_piece(items: &[Item]) -> u64
+    ensures count { result ≡ label_count (piece items.now) }
+    ensures few { result ≤ length items.now }
+{
+    let mut count = 0;
+    for item in items {
+        match item {
+            Item::Entry(_) => return count,
+            Item::Label(_) => count += 1,
+            Item::Ins(_) | Item::Jmp(_) | Item::Jcc(_, _) | Item::Ret => {}
+        }
+    }
+    count
+}
+
+// Whether each jump's label is in its own piece. Labels in order make a piece's labels a range.
+fn do_jumps_stay(items: &[Item]) -> bool
+    requires { labels_from 0 items.now ≡ true }
+    ensures { result ≡ jumps_stay (piece items.now) items.now }
+{
+    let mut low = 0;
+    let mut high = labels_in_piece(items);
+    for (k, item) in items.iter().enumerate() {
+        match item {
+            Item::Entry(_) => {
+                low = high;
+                high += labels_in_piece(items.split_at(k + 1).1);
+            }
+            Item::Jmp(label) | Item::Jcc(_, label) => {
+                if u64::from(*label) < low || high <= u64::from(*label) {
+                    return false;
+                }
+            }
+            Item::Ins(_) | Item::Label(_) | Item::Ret => {}
+        }
+    }
+    true
+}
+
+/// Whether items are a program: they are pieces that begin with an entry each; the entries' names are allowed and
+/// differ; the instructions are the machine's; the labels are 0, 1, .. in the order of the code; and each jump's label
+/// is in its own piece.
+pub fn program_ok(items: &[Item]) -> bool
+    ensures { result ≡ program_ok items.now }
+{
+    if !begins_with_entry(items) || !entries_differ(items) {
+        return false;
+    }
+    if !are_items(items) || !are_labels_in_order(items) {
+        return false;
+    }
+    do_jumps_stay(items)
+}
+
+#[cfg(test)]
+mod tests {
+    use super::*;
+    use crate::instructions::{AluOp, Ins};
+    use crate::items::Cond;
+    use crate::operands::Opr;
+    use crate::places::Reg;
+    use crate::text::Text;
+    use std::alloc::Global;
+    use std::test::Fail;
+
+    // Items by words: `:x` an entry, `l1` a label, `j1` and `c1` jumps, `a` an addition, `s` one to rsp, `r` a return.
+    fn items(alloc: Global, words: &str) -> Result<Vec<Item>, Fail> {
+        let mut items = Vec::new(alloc);
+        for word in words.split_ascii_whitespace() {
+            items.push(match word.as_bytes() {
+                [b':', name @ ..] => Item::Entry(Text::from_slice(alloc, name)?),
+                [b'l', digit] => Item::Label(u32::from(digit.wrapping_sub(b'0'))),
+                [b'j', digit] => Item::Jmp(u32::from(digit.wrapping_sub(b'0'))),
+                [b'c', digit] => Item::Jcc(Cond::Ne, u32::from(digit.wrapping_sub(b'0'))),
+                [b'j'] => Item::Jmp(u32::MAX),
+                [b's'] => add(Reg::Rsp),
+                [b'r'] => Item::Ret,
+                _ => add(Reg::Rax),
+            })?;
+        }
+        Ok(items)
+    }
+
+    fn add(d: Reg) -> Item {
+        Item::Ins(Ins::Alu {
+            op: AluOp::Add,
+            d,
+            s: Opr::Imm(1),
+        })
+    }
+
+    #[test]
+    fn tells_programs_from_other_items(rt: HostRuntime) -> Result<(), Fail> {
+        for (words, want) in [
+            ("", true),
+            (":f", true),
+            (":f r", true),
+            (":f a a r", true),
+            (":f l0 a c0 r", true),
+            (":f j1 l0 a l1 c0 r", true),
+            (":f l0 j0 r :g l1 j1 r :h r", true),
+            (":f r :F r", true),
+            ("a r", false),
+            ("r :f r", false),
+            (":f s r", false),
+            (":rax r", false),
+            (":L1 r", false),
+            (":f r :g r :f r", false),
+            (":f l1 r", false),
+            (":f l0 l2 r", false),
+            (":f l0 l0 r", false),
+            (":f l1 l0 r", false),
+            (":f j0 r", false),
+            (":f l0 c1 r", false),
+            (":f l0 r :g j0 r", false),
+            (":f j1 l0 r :g l1 r", false),
+            (":f l0 l1 r :g l2 c1 r", false),
+            (":f l0 j r", false),
+        ] {
+            let items = items(rt.alloc(), words)?;
+            assert_eq!(rt; program_ok(&items), want, "at {words}");
+        }
+        Ok(())
+    }
+}
