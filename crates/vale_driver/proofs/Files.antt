@@ -1,5 +1,5 @@
 -- The phases over source files, one file after another.
-use Rattle.std.proofs.Common.{◌≡◌, ℕ, zero, suc, ◌+◌, ◌<◌, ◌≤◌, List, [], ◌∷◌, ◌++◌, length, drop, get_or, map, replicate, Option, Some, None, refl, sym, ap, ◌∙◌, subst, arith, inl, inr, append_assoc}
+use Rattle.std.proofs.Common.{◌≡◌, ℕ, zero, suc, ◌+◌, ◌<◌, List, [], ◌∷◌, ◌++◌, length, drop, get_or, map, replicate, Option, Some, None, refl, sym, ap, ◌∙◌, subst, arith, inl, inr, append_assoc}
 use Rattle.std.specs.Prelude.{IfSome, slice_get, codes, Ok, Vec}
 use Rattle.std.specs.declared.alloc.Global.{Global}
 use Rattle.std.specs.List.{AllByRecursion}
@@ -17,7 +17,7 @@ use Rattle.vale_driver.specs.declared.sources.Source.{Source as AFile}
 use Rattle.vale_driver.specs.declared.sources.Scanned.{Scanned}
 use Rattle.vale_driver.specs.Sources.{Source, numbered, refusal, FirstOf, now, later, IsShort, TooLong, HasTokens, NoToken, IsRead, NotADecl, Declared, Spells, NoForm, Phases, source_limit}
 use Rattle.vale_driver.specs.Outcome.{EachHolds, Behind, no_form}
-use Rattle.vale_driver.specs.Phases.{seen, seen_all, scan, kept, Opened, Parsed, Parses, Unparsed}
+use Rattle.vale_driver.specs.Phases.{seen_all, scan, kept, Opened, Parsed, Parses, Unparsed}
 use Rattle.vale_driver.specs.Stops.{StopsBy, Fetched, SourcesSpell, SourcesRefused}
 use Rattle.vale_driver.proofs.Going.{bytes_of, Fetching, Scanning, Parsing}
 
@@ -38,10 +38,6 @@ at_turn f P [] i x all lt e = absurd (omega (arith, lt))
 at_turn f P (y ∷ xs) zero x all lt e = subst (λ z. P (f z)) (sym e) all.0
 at_turn f P (y ∷ xs) (suc i) x all lt e = at_turn f P xs i x all.1 (omega (arith, lt)) e
 
-all_last : {A : Type 0} (P : A → Type 0) (xs : List A) (x : A) → AllByRecursion P xs → P x → AllByRecursion P (xs ++ x ∷ [])
-all_last P [] x h k = (k, tt)
-all_last P (y ∷ xs) x h k = (h.0, all_last P xs x h.1 k)
-
 map_last : {A B : Type 0} (f : A → B) (xs : List A) (x : A) (ys : List B) → map f (xs ++ x ∷ []) ++ ys ≡ map f xs ++ (f x ∷ ys)
 map_last f [] x ys = refl
 map_last f (y ∷ xs) x ys = ap (λ l. f y ∷ l) (map_last f xs x ys)
@@ -49,25 +45,6 @@ map_last f (y ∷ xs) x ys = ap (λ l. f y ∷ l) (map_last f xs x ys)
 behind : {A : Type 0} (P : A → Type 0) (R : A → Refusal → Type 0) (xs ys : List A) (r : Refusal) → AllByRecursion P xs → FirstOf P R ys r → FirstOf P R (xs ++ ys) r
 behind P R [] ys r h k = k
 behind P R (x ∷ xs) ys r h k = inr (h.0, behind P R xs ys r h.1 k)
-
--- one more file was fetched
-pub fetched_one : (tells : List ℕ → Option (List ℕ)) (ss new : List AFile) (k : ℕ) (rest front all : List (List ℕ)) (n : List ℕ) (s : AFile) → front ≡ n ∷ rest → s.number ≡ k → s.name.now ≡ n → IfSome (tells n) (λ told. s.bytes.items ≡ told) → length s.bytes.items ≤ source_limit → new ≡ ss ++ s ∷ [] → Fetching tells ss k front all → Fetching tells new (k + 1) rest all
-fetched_one tells ss new k rest front all n s split number name told short pushed h = subst (λ l. Fetching tells l (k + 1) rest all) (sym pushed) record {
-  holds = λ cs more. subst (EachHolds tells all) (sym (map_last (λ x. x.bytes.items) ss s cs)) (h.holds (s.bytes.items ∷ cs) (subst (λ l. EachHolds tells l (s.bytes.items ∷ cs)) (sym split) (told, more)));
-  are = λ cs.
-      ap (numbered 0 all) (map_last (λ x. x.bytes.items) ss s cs)
-      ∙ h.are (s.bytes.items ∷ cs)
-      ∙ ap (λ l. seen_all ss ++ numbered k l (s.bytes.items ∷ cs)) split
-      ∙ ap (λ x. seen_all ss ++ (x ∷ numbered (k + 1) rest cs)) (sym (same number name))
-      ∙ sym (map_last seen ss s (numbered (k + 1) rest cs));
-  short = subst (AllByRecursion IsShort) (append-nil_of (map_last seen ss s [])) (all_last IsShort (seen_all ss) (seen s) h.short short);
-}
-  where
-    same : s.number ≡ k → s.name.now ≡ n → seen s ≡ record { number = k; name = n; bytes = s.bytes.items }
-    same e f = ap (λ x. record { number = x; name = s.name.now; bytes = s.bytes.items }) e ∙ ap (λ x. record { number = k; name = x; bytes = s.bytes.items }) f
-
-    append-nil_of : map seen (ss ++ s ∷ []) ++ [] ≡ seen_all ss ++ seen s ∷ [] → seen_all ss ++ seen s ∷ [] ≡ seen_all (ss ++ s ∷ [])
-    append-nil_of e = sym e ∙ append-nil (seen_all (ss ++ s ∷ []))
 
 -- files that weren't fetched hold something
 pub told_or_nothing : Option (List ℕ) → List ℕ
@@ -134,12 +111,6 @@ scanned_one scanned new s t rest front all split is pushed h =
       first = λ r f. h.first r (subst (λ l. FirstOf HasTokens NoToken l r) (sym split) (inr (has, f)));
     }
 
-pub refused_token : (scanned : List Scanned) (s : Source) (rest front all : List Source) (r : Refusal) → front ≡ s ∷ rest → NoToken s r → Scanning scanned front all → FirstOf HasTokens NoToken all r
-refused_token scanned s rest front all r split none h = h.first r (subst (λ l. FirstOf HasTokens NoToken l r) (sym split) (inl none))
-
-pub scanned_all : (scanned : List Scanned) (rest all : List Source) → rest ≡ [] → Scanning scanned rest all → map kept scanned ≡ map scan all
-scanned_all scanned rest all e h = sym (append-nil (map kept scanned)) ∙ ap (λ l. map kept scanned ++ map scan l) (sym e) ∙ h.kept_all
-
 -- one more file has its declarations
 pub parsed_one : (decls new : List De) (s : Scanned) (xs : List De) (rest front all : List Scanned) → front ≡ s ∷ rest → AreDecls s.tokens.items xs → new ≡ decls ++ xs → Parsing decls front all → Parsing new rest all
 parsed_one decls new s xs rest front all split are pushed h = subst (λ l. Parsing l rest all) (sym pushed) record {
@@ -203,9 +174,6 @@ refused_by tells files ss r o f = record {
   holds = o.holds;
   first = λ name cert. subst (λ l. Phases l (Behind (record { cert = name; files = files }) (record { sources = o.contents; cert = cert })) r) o.are (f name cert o.contents o.are);
 }
-
-pub scan_refused : (tells : List ℕ → Option (List ℕ)) (files : List (List ℕ)) (ss : List Source) (r : Refusal) → Opened tells files ss → FirstOf HasTokens NoToken ss r → SourcesRefused tells files r
-scan_refused tells files ss r o f = refused_by tells files ss r o (λ name cert contents e. later o.short (now f))
 
 pub parse_refused : (tells : List ℕ → Option (List ℕ)) (files : List (List ℕ)) (ss : List Source) (scs : List Scanned) (r : Refusal) → Opened tells files ss → map kept scs ≡ map scan ss → FirstOf Parses Unparsed scs r → SourcesRefused tells files r
 parse_refused tells files ss scs r o k f = refused_by tells files ss r o (λ name cert contents e. later o.short (later (have_tokens scs ss k) (now (not_declared scs ss r k f))))

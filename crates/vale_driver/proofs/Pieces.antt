@@ -115,21 +115,6 @@ number_takes n rest fits s =
     ap (λ x. number_of x.0 >>= λ m. Some (m, x.1)) (span_front is_digit_byte (decimal n) rest (digits-decimal n fits) s)
     ∙ ap (λ o. o >>= λ m. Some (m, rest)) (number_of-decimal n fits)
 
--- the parts of a pair that was read
-pub first_same : {A : Type 0} (x y : A) (r t : List ℕ) → ◌≡◌ {A = Option (A × List ℕ)} (Some (x, r)) (Some (y, t)) → x ≡ y
-first_same {A = A} x y r t h = ap (λ o. part o) h
-  where
-    part : Option (A × List ℕ) → A
-    part None = x
-    part (Some z) = z.0
-
-pub rest_same : {A : Type 0} (x y : A) (r t : List ℕ) → ◌≡◌ {A = Option (A × List ℕ)} (Some (x, r)) (Some (y, t)) → r ≡ t
-rest_same {A = A} x y r t h = ap (λ o. part o) h
-  where
-    part : Option (A × List ℕ) → List ℕ
-    part None = r
-    part (Some z) = z.1
-
 pub not_false : (b : Bool) → b ≡ false → not b ≡ true
 not_false true h = absurd (false≢true (sym h))
 not_false false h = refl

@@ -1,8 +1,6 @@
 -- The versions that the checker keeps are those of the condition, and its terms the condition's.
-use Rattle.std.proofs.Common.{◌≡◌, ℕ, suc, ◌+◌, ◌-◌, ◌<◌, ◌≤◌, ℤ, pos, negsuc, Bool, true, false, cond, List, [], ◌∷◌, ◌++◌, map, refl, sym, ap, ◌∙◌, arith, mod-eq_of_lt, SFits, w64, append_assoc, lit≤, subst}
+use Rattle.std.proofs.Common.{◌≡◌, ℕ, ◌+◌, ◌≤◌, Bool, true, false, cond, List, [], ◌∷◌, ◌++◌, map, refl, sym, ap, ◌∙◌, arith, append_assoc, lit≤, subst}
 use Rattle.std.proofs.Math.Path.{fun_ext}
-use Rattle.std.specs.Int.{cast_unsigned}
-use Rattle.std.proofs.lemmas.Int.{ints}
 use Rattle.x64_syntax.specs.declared.places.Reg.{Reg as GeneralReg}
 use Rattle.x64_syntax.specs.declared.places.FlagName.TheVariants.{Cf, Zf, Sf, Of}
 use Rattle.x64_syntax.specs.declared.places.Place.{Place}
@@ -13,22 +11,13 @@ use Rattle.x64_syntax.specs.declared.instructions.AluOp.TheVariants.{Add}
 use Rattle.x64_syntax.specs.declared.instructions.Ins.{Ins}
 use Rattle.x64_syntax.specs.declared.instructions.Ins.TheVariants.{Mov, Alu}
 use Rattle.term_core.specs.Terms.{Tm}
-use Rattle.term_core.specs.Value.{T}
 use Rattle.x64_meaning.specs.Exp.{among}
-use Rattle.x64_meaning.specs.Table.{equations, writes, word_of}
+use Rattle.x64_meaning.specs.Table.{equations, writes}
 use Rattle.x64_meaning.specs.Condition.{Versions, next_versions, hypothesis, hypotheses, straight_hyps, first_versions, end_versions}
 use Rattle.straight_line.specs.declared.form.StraightLine.{StraightLine}
 use Rattle.vale_driver.specs.Terms.{versions_of, move_term, sum_term, carry_term, zero_term, sign_term, overflow_term, addition_terms, promise_term}
 use Rattle.vale_driver.specs.Build.{condition_goal}
 use Rattle.vale_driver.proofs.Going.{Hypotheses}
-
--- a constant as a word
-pub word_of_cast : (z : ℤ) → SFits w64 z → cast_unsigned w64 z ≡ word_of z
-word_of_cast (pos n) fits = let lt : n < T = omega (arith, ints) in sym (mod-eq_of_lt lt)
-word_of_cast (negsuc n) fits =
-    let lt : n < T = omega (arith, ints) in
-    let e : T - suc n ≡ T - 1 - n = omega arith in
-    e ∙ ap (λ k. T - 1 - k) (sym (mod-eq_of_lt lt))
 
 -- the terms that are built are the equations of the table
 pub pushed_move : (v : Versions) (d : GeneralReg) (s : Opr) (old : List Tm) (t : Tm) → t ≡ move_term v d s → old ++ t ∷ [] ≡ old ++ map (hypothesis v) (equations (Mov d s))

@@ -4,3 +4,4 @@ pub mod Apply
 pub mod Names
 pub mod Straight
 pub mod Forms
+pub mod Stepping

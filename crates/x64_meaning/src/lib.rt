@@ -4,8 +4,10 @@
 
 mod laws;
 mod machine;
+mod step;
 mod versions;
 
 pub use laws::{forms_as_in_the_table, straight_code};
-pub use machine::{Fault, Flag, Obs};
+pub use machine::{Fault, Flag, Machine, Obs, Seen};
+pub use step::step_ins;
 pub use versions::{place_sort, version, version_name};

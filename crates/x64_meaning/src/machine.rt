@@ -1,5 +1,10 @@
-// The parts of a state that runs speak of.
+// The machine's state, and what is seen of a step.
 
+ghost use Rattle.std.specs.Prelude.{◌≡◌, replicate};
+ghost use Rattle.x64_meaning.specs.declared.machine.Flag.TheVariants as flag;
+
+use std::marker::Model;
+use x64_blocks::Blocks;
 use x64_syntax::FlagName;
 
 /// A flag: 0, 1, or undefined after an instruction that leaves it open.
@@ -24,4 +29,41 @@ pub enum Fault {
     Outside { address: u64 },
     /// The step reads a flag that is undefined.
     UndefinedFlag { flag: FlagName },
+}
+
+/// The machine: general registers and xmm registers by number, the flags in the order cf, zf, sf, of, and memory.
+#[derive(Debug, Drop)]
+pub struct Machine {
+    pub regs: [u64; 16],
+    pub xmms: [u128; 16],
+    pub flags: [Flag; 4],
+    pub blocks: Blocks,
+}
+
+impl Model for Machine {
+    ghost use Rattle.x64_meaning.specs.State.{State};
+
+    ghost Value = { State };
+
+    ghost view = { λ m. record { regs = m.regs; xmms = m.xmms; flags = m.flags; blocks = m.blocks } };
+}
+
+impl Machine {
+    /// A machine over these blocks: its registers are 0 and its flags undefined.
+    pub fn new(blocks: Blocks) -> Self
+        ensures { result ≡ record { regs = replicate 16 0; xmms = replicate 16 0; flags = replicate 4 flag.Undefined; blocks = blocks } }
+    {
+        Machine {
+            regs: [0; 16],
+            xmms: [0; 16],
+            flags: [Flag::Undefined; 4],
+            blocks,
+        }
+    }
+}
+
+/// What an observer saw of the last step.
+#[derive(Clone, Copy, Debug, PartialEq, Eq)]
+pub struct Seen {
+    pub last: Option<Obs>,
 }
