@@ -162,7 +162,8 @@ IsSource rs n (M m) = ⊥
 
 abbrev pub IsInstruction : List GeneralReg → Ins → Type 0
 IsInstruction rs (Mov d s) = (has rs d ≡ true) × IsSource rs (2 ^ 63) s
-IsInstruction rs (Alu op d s) = (has rs d ≡ true) × IsSource rs (2 ^ 31) s
+IsInstruction rs (Alu alu.Add d s) = (has rs d ≡ true) × IsSource rs (2 ^ 31) s
+IsInstruction rs _ = ⊥
 
 pub record IsStraight (p : StraightLine) : Type 0 where
   pub export : is_export_text p.export ≡ true

@@ -38,6 +38,7 @@ fn shown(alloc: Global, text: &str) -> Result<String, Fail> {
                 write!(out, "; {} +=", d.name())?;
                 show_source(&mut out, s)?;
             }
+            _ => out.push_str("; another")?,
         }
     }
     match line.promise {

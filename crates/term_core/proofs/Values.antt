@@ -1,32 +1,48 @@
--- Laws of values and of comparisons of terms.
-use Rattle.std.proofs.Common.{◌≡◌, ◌+◌, ◌<◌, ℤ, Bool, true, false, refl, ap, ◌∙◌, arith, mod-eq_of_lt, cond}
-use Rattle.std.specs.Ordering.{int_eq}
+-- Laws of values.
+use Rattle.std.proofs.Common.{◌≡◌, ℕ, ◌+◌, ◌-◌, ◌*◌, ◌/◌, ◌%◌, ◌<◌, ◌^◌, pos, negsuc, ℤ, List, [], ◌∷◌, map, Bool, true, false, refl, ap, ◌∙◌, arith, mod-eq_of_lt, cond}
 use Rattle.std.specs.Cmp.{signed_Decides}
-use Rattle.std.specs.Str.{bytes_eq}
+use Rattle.std.specs.Prelude.{bit_and, bit_or, bit_xor}
 use Rattle.std.specs.Int.Bits.{and_lt}
-use Rattle.std.proofs.lemmas.Nat.{xor_lt, mod_below}
-use Rattle.std.proofs.lemmas.Bool.{and_parts, and_from, false≢true, eqb-true, eq-eqb}
+use Rattle.std.proofs.lemmas.Nat.{xor_lt, or_lt, mod_below, div_below, mul-lt}
+use Rattle.std.proofs.lemmas.Bool.{false≢true, eqb-true, eq-eqb}
 use Rattle.std.proofs.lemmas.Slice.Eq.{bytes_eq-Decides}
-use Rattle.term_core.specs.declared.term.Sort.{Sort}
-use Rattle.term_core.specs.declared.term.Sort.TheVariants as sort
-use Rattle.term_core.specs.declared.term.UnOp.{UnOp}
-use Rattle.term_core.specs.declared.term.UnOp.TheVariants as un
-use Rattle.term_core.specs.declared.term.BinOp.{BinOp}
-use Rattle.term_core.specs.declared.term.BinOp.TheVariants as bin
-use Rattle.term_core.specs.Terms.{Tm, Name, Int, W64, Un, Bin, Ite, sort_eq, un_eq, bin_eq, tm_eq, sum_sort, bin_sort, tm_sort}
-use Rattle.term_core.specs.Value.{T, T128, Val, Whole, Truth, Word, Wide, truth, word, wide, cast, val_eq, bin_value, Assignment, value}
+use Rattle.term_core.specs.declared.operator.Sort.{Sort}
+use Rattle.term_core.specs.declared.operator.Sort.TheVariants as sort
+use Rattle.term_core.specs.declared.operator.UnOp.{UnOp}
+use Rattle.term_core.specs.declared.operator.UnOp.TheVariants as un
+use Rattle.term_core.specs.declared.operator.BinOp.{BinOp}
+use Rattle.term_core.specs.declared.operator.BinOp.TheVariants as bin
+use Rattle.term_core.specs.Operators.{sum_sort, bits_sort, un_sort, bin_sort, counted_sort}
+use Rattle.term_core.specs.Terms.{Tm, Name, Int, W64, W128, Un, Bin, Ite, Put, Shift, Call, All, tm_sort}
+use Rattle.term_core.specs.Terms as tm
+use Rattle.term_core.specs.Value.{T, T128, Val, Whole, Truth, Word, Wide, Array, truth, word, whole, wide, array, cast, word_of, val_eq, un_value, bin_value, sum_value, difference_value, product_value, bits_value, not_value, word_at, put_at, shifted, Functions, Assignment, value, values}
+use Rattle.term_core.specs.Words128.{paddd, pshufb}
+use Rattle.term_core.proofs.Comparing.{int_eq_same}
 
 pub word-lt : (v : Val) → word v < T
 word-lt (Word n) = mod_below n T (omega arith)
 word-lt (Whole z) = omega arith
 word-lt (Truth b) = omega arith
 word-lt (Wide n) = omega arith
+word-lt (Array ws) = omega arith
 
 pub wide-lt : (v : Val) → wide v < T128
 wide-lt (Wide n) = mod_below n T128 (omega arith)
 wide-lt (Whole z) = omega arith
 wide-lt (Truth b) = omega arith
 wide-lt (Word n) = omega arith
+wide-lt (Array ws) = omega arith
+
+words_twice : (ws : List ℕ) → map (λ n. n % T) (map (λ n. n % T) ws) ≡ map (λ n. n % T) ws
+words_twice [] = refl
+words_twice (w ∷ ws) = ap (λ n. n ∷ map (λ n. n % T) (map (λ n. n % T) ws)) (mod-eq_of_lt (mod_below w T (omega arith))) ∙ ap (λ ns. (w % T) ∷ ns) (words_twice ws)
+
+array_twice : (v : Val) → map (λ n. n % T) (array v) ≡ array v
+array_twice (Array ws) = words_twice ws
+array_twice (Whole z) = refl
+array_twice (Truth b) = refl
+array_twice (Word n) = refl
+array_twice (Wide n) = refl
 
 -- a value that is one of its sort
 abbrev pub IsOf : Sort → Val → Type 0
@@ -37,35 +53,111 @@ cast_twice sort.Int v = refl
 cast_twice sort.Bool v = refl
 cast_twice sort.W64 v = ap Word (mod-eq_of_lt (word-lt v))
 cast_twice sort.W128 v = ap Wide (mod-eq_of_lt (wide-lt v))
+cast_twice sort.Arr v = ap Array (array_twice v)
 
-sum-sorted : (s : Sort) (v w : Val) → IsOf (sum_sort s) (bin_value bin.Add s v w)
+is_word : (n : ℕ) → n < T → IsOf sort.W64 (Word n)
+is_word n lt = ap Word (mod-eq_of_lt lt)
+
+is_wide : (n : ℕ) → n < T128 → IsOf sort.W128 (Wide n)
+is_wide n lt = ap Wide (mod-eq_of_lt lt)
+
+word_mod : (n : ℕ) → IsOf sort.W64 (Word (n % T))
+word_mod n = is_word (n % T) (mod_below n T (omega arith))
+
+sum-sorted : (s : Sort) (v w : Val) → IsOf (sum_sort s) (sum_value s v w)
 sum-sorted sort.Int v w = refl
 sum-sorted sort.Bool v w = refl
 sum-sorted sort.W128 v w = refl
-sum-sorted sort.W64 v w = ap Word (mod-eq_of_lt (mod_below (word v + word w) T (omega arith)))
+sum-sorted sort.Arr v w = refl
+sum-sorted sort.W64 v w = word_mod (word v + word w)
+
+difference-sorted : (s : Sort) (v w : Val) → IsOf (sum_sort s) (difference_value s v w)
+difference-sorted sort.Int v w = refl
+difference-sorted sort.Bool v w = refl
+difference-sorted sort.W128 v w = refl
+difference-sorted sort.Arr v w = refl
+difference-sorted sort.W64 v w = word_mod (word v + T - word w)
+
+product-sorted : (s : Sort) (v w : Val) → IsOf (sum_sort s) (product_value s v w)
+product-sorted sort.Int v w = refl
+product-sorted sort.Bool v w = refl
+product-sorted sort.W128 v w = refl
+product-sorted sort.Arr v w = refl
+product-sorted sort.W64 v w = word_mod (word v * word w)
+
+bits-sorted : (f : ℕ → ℕ → ℕ) → ((k a b : ℕ) → a < 2 ^ k → b < 2 ^ k → f a b < 2 ^ k) → (s : Sort) (v w : Val) → IsOf (bits_sort s) (bits_value f s v w)
+bits-sorted f below sort.Int v w = is_word _ (below 64 (word v) (word w) (word-lt v) (word-lt w))
+bits-sorted f below sort.Bool v w = is_word _ (below 64 (word v) (word w) (word-lt v) (word-lt w))
+bits-sorted f below sort.W64 v w = is_word _ (below 64 (word v) (word w) (word-lt v) (word-lt w))
+bits-sorted f below sort.Arr v w = is_word _ (below 64 (word v) (word w) (word-lt v) (word-lt w))
+bits-sorted f below sort.W128 v w = is_wide _ (below 128 (wide v) (wide w) (wide-lt v) (wide-lt w))
+
+not-sorted : (s : Sort) (v : Val) → IsOf (bits_sort s) (not_value s v)
+not-sorted sort.Int v = is_word _ (omega (arith, word-lt v))
+not-sorted sort.Bool v = is_word _ (omega (arith, word-lt v))
+not-sorted sort.W64 v = is_word _ (omega (arith, word-lt v))
+not-sorted sort.Arr v = is_word _ (omega (arith, word-lt v))
+not-sorted sort.W128 v = is_wide _ (omega (arith, wide-lt v))
+
+word_of-sorted : (z : ℤ) → IsOf sort.W64 (Word (word_of z))
+word_of-sorted (pos n) = word_mod n
+word_of-sorted (negsuc n) = is_word _ (omega arith)
+
+upper-lt : (a b : ℕ) → a < T → b < T → (a * b) / T < T
+upper-lt a b p q = div_below (a * b) T T (omega arith) (mul-lt a b T T p q)
+
+pair-lt : (a b : ℕ) → a < T → b < T → a * T + b < T128
+pair-lt a b p q = omega (arith, p, q)
+
+pub un_value-sorted : (op : UnOp) (s : Sort) (v : Val) → IsOf (un_sort op s) (un_value op s v)
+un_value-sorted un.Neg s v = refl
+un_value-sorted un.Int s v = refl
+un_value-sorted un.Word s v = word_of-sorted (whole v)
+un_value-sorted un.LogicNot s v = refl
+un_value-sorted un.Not s v = not-sorted s v
+un_value-sorted un.Hi s v = is_word _ (div_below (wide v) T T (omega arith) (omega (arith, wide-lt v)))
+un_value-sorted un.Lo s v = word_mod (wide v)
+un_value-sorted un.Len s v = refl
 
 pub bin_value-sorted : (op : BinOp) (s : Sort) (v w : Val) → IsOf (bin_sort op s) (bin_value op s v w)
 bin_value-sorted bin.Add s v w = sum-sorted s v w
-bin_value-sorted bin.And s v w = ap Word (mod-eq_of_lt (and_lt 64 (word v) (word w) (word-lt v) (word-lt w)))
-bin_value-sorted bin.Xor s v w = ap Word (mod-eq_of_lt (xor_lt 64 (word v) (word w) (word-lt v) (word-lt w)))
+bin_value-sorted bin.Sub s v w = difference-sorted s v w
+bin_value-sorted bin.Mul s v w = product-sorted s v w
+bin_value-sorted bin.Div s v w = refl
+bin_value-sorted bin.Mod s v w = refl
 bin_value-sorted bin.Eq s v w = refl
+bin_value-sorted bin.Lt s v w = refl
 bin_value-sorted bin.Le s v w = refl
+bin_value-sorted bin.LogicAnd s v w = refl
+bin_value-sorted bin.LogicOr s v w = refl
+bin_value-sorted bin.Implies s v w = refl
+bin_value-sorted bin.And s v w = bits-sorted bit_and and_lt s v w
+bin_value-sorted bin.Or s v w = bits-sorted bit_or or_lt s v w
+bin_value-sorted bin.Xor s v w = bits-sorted bit_xor xor_lt s v w
+bin_value-sorted bin.Mulhi s v w = is_word _ (upper-lt (word v) (word w) (word-lt v) (word-lt w))
+bin_value-sorted bin.Pair s v w = is_wide _ (pair-lt (word v) (word w) (word-lt v) (word-lt w))
+bin_value-sorted bin.Paddd s v w = cast_twice sort.W128 (Wide (paddd (wide v) (wide w)))
+bin_value-sorted bin.Pshufb s v w = cast_twice sort.W128 (Wide (pshufb (wide v) (wide w)))
+bin_value-sorted bin.Index s v w = cast_twice sort.W64 (Word (word_at (array v) (whole w)))
 
 pub choice-sorted : (s : Sort) (b : Bool) (v w : Val) → IsOf s v → IsOf s (cond b v (cast s w))
 choice-sorted s true v w h = h
 choice-sorted s false v w h = cast_twice s w
 
 -- a term's value is one of its sort
-pub value-sorted : (a : Assignment) (t : Tm) → IsOf (tm_sort t) (value a t)
-value-sorted a (Name text s) = cast_twice s (a text s)
-value-sorted a (Int z) = refl
-value-sorted a (W64 n) = ap Word (mod-eq_of_lt (mod_below n T (omega arith)))
-value-sorted a (Un un.Int t) = refl
-value-sorted a (Bin op t u) = bin_value-sorted op (tm_sort t) (value a t) (value a u)
-value-sorted a (Ite c t u) = choice-sorted (tm_sort t) (truth (value a c)) (value a t) (value a u) (value-sorted a t)
-
-int_eq_same : (z : ℤ) → int_eq z z ≡ true
-int_eq_same z = (signed_Decides z z).1 refl
+pub value-sorted : (f : Functions) (a : Assignment) (t : Tm) → IsOf (tm_sort t) (value f a t)
+value-sorted f a (Name text s) = cast_twice s (a text s)
+value-sorted f a (Int z) = refl
+value-sorted f a (W64 n) = word_mod n
+value-sorted f a (W128 n) = is_wide _ (mod_below n T128 (omega arith))
+value-sorted f a (tm.Truth b) = refl
+value-sorted f a (Un op t) = un_value-sorted op (tm_sort t) (value f a t)
+value-sorted f a (Bin op t u) = bin_value-sorted op (tm_sort t) (value f a t) (value f a u)
+value-sorted f a (Ite c t u) = choice-sorted (tm_sort t) (truth (value f a c)) (value f a t) (value f a u) (value-sorted f a t)
+value-sorted f a (Put x i w) = cast_twice sort.Arr (Array (put_at (array (value f a x)) (whole (value f a i)) (word (value f a w))))
+value-sorted f a (Shift op n t) = cast_twice (counted_sort op) (shifted op n (value f a t))
+value-sorted f a (Call k s args) = cast_twice s (f k (values f a args))
+value-sorted f a (All text low high body) = refl
 
 pub val_eq_same : (v : Val) → val_eq v v ≡ true
 val_eq_same (Whole z) = int_eq_same z
@@ -73,6 +165,7 @@ val_eq_same (Truth true) = refl
 val_eq_same (Truth false) = refl
 val_eq_same (Word n) = eq-eqb n n refl
 val_eq_same (Wide n) = eq-eqb n n refl
+val_eq_same (Array ws) = (bytes_eq-Decides ws ws).1 refl
 
 pub val_eq_is : (v w : Val) → val_eq v w ≡ true → v ≡ w
 val_eq_is (Whole a) (Whole b) h = ap Whole ((signed_Decides a b).0 h)
@@ -80,66 +173,5 @@ val_eq_is (Truth true) (Truth true) h = refl
 val_eq_is (Truth false) (Truth false) h = refl
 val_eq_is (Word a) (Word b) h = ap Word (eqb-true a b h)
 val_eq_is (Wide a) (Wide b) h = ap Wide (eqb-true a b h)
+val_eq_is (Array a) (Array b) h = ap Array ((bytes_eq-Decides a b).0 h)
 val_eq_is _ _ h = absurd (false≢true h)
-
-pub sort_eq_is : (s t : Sort) → sort_eq s t ≡ true → s ≡ t
-sort_eq_is sort.Int sort.Int h = refl
-sort_eq_is sort.Bool sort.Bool h = refl
-sort_eq_is sort.W64 sort.W64 h = refl
-sort_eq_is sort.W128 sort.W128 h = refl
-sort_eq_is _ _ h = absurd (false≢true h)
-
-sort_eq_same : (s : Sort) → sort_eq s s ≡ true
-sort_eq_same sort.Int = refl
-sort_eq_same sort.Bool = refl
-sort_eq_same sort.W64 = refl
-sort_eq_same sort.W128 = refl
-
-un_eq_is : (o p : UnOp) → un_eq o p ≡ true → o ≡ p
-un_eq_is un.Int un.Int h = refl
-
-un_eq_same : (o : UnOp) → un_eq o o ≡ true
-un_eq_same un.Int = refl
-
-bin_eq_is : (o p : BinOp) → bin_eq o p ≡ true → o ≡ p
-bin_eq_is bin.Add bin.Add h = refl
-bin_eq_is bin.And bin.And h = refl
-bin_eq_is bin.Xor bin.Xor h = refl
-bin_eq_is bin.Eq bin.Eq h = refl
-bin_eq_is bin.Le bin.Le h = refl
-bin_eq_is _ _ h = absurd (false≢true h)
-
-bin_eq_same : (o : BinOp) → bin_eq o o ≡ true
-bin_eq_same bin.Add = refl
-bin_eq_same bin.And = refl
-bin_eq_same bin.Xor = refl
-bin_eq_same bin.Eq = refl
-bin_eq_same bin.Le = refl
-
--- terms that are compared as the same are the same
-pub tm_eq_is : (t u : Tm) → tm_eq t u ≡ true → t ≡ u
-tm_eq_is (Name a s) (Name b t) h =
-    let p = and_parts (bytes_eq a b) _ h in
-    ap (λ x. Name x s) ((bytes_eq-Decides a b).0 p.0) ∙ ap (Name b) (sort_eq_is s t p.1)
-tm_eq_is (Int a) (Int b) h = ap Int ((signed_Decides a b).0 h)
-tm_eq_is (W64 a) (W64 b) h = ap W64 (eqb-true a b h)
-tm_eq_is (Un o a) (Un p b) h =
-    let q = and_parts (un_eq o p) _ h in
-    ap (λ x. Un x a) (un_eq_is o p q.0) ∙ ap (Un p) (tm_eq_is a b q.1)
-tm_eq_is (Bin o a b) (Bin p c d) h =
-    let q = and_parts (bin_eq o p) _ h in
-    let r = and_parts (tm_eq a c) _ q.1 in
-    ap (λ x. Bin x a b) (bin_eq_is o p q.0) ∙ ap (λ x. Bin p x b) (tm_eq_is a c r.0) ∙ ap (Bin p c) (tm_eq_is b d r.1)
-tm_eq_is (Ite a b c) (Ite d e f) h =
-    let q = and_parts (tm_eq a d) _ h in
-    let r = and_parts (tm_eq b e) _ q.1 in
-    ap (λ x. Ite x b c) (tm_eq_is a d q.0) ∙ ap (λ x. Ite d x c) (tm_eq_is b e r.0) ∙ ap (Ite d e) (tm_eq_is c f r.1)
-tm_eq_is _ _ h = absurd (false≢true h)
-
-pub tm_eq_same : (t : Tm) → tm_eq t t ≡ true
-tm_eq_same (Name a s) = and_from _ _ ((bytes_eq-Decides a a).1 refl) (sort_eq_same s)
-tm_eq_same (Int a) = int_eq_same a
-tm_eq_same (W64 a) = eq-eqb a a refl
-tm_eq_same (Un o a) = and_from _ _ (un_eq_same o) (tm_eq_same a)
-tm_eq_same (Bin o a b) = and_from _ _ (bin_eq_same o) (and_from _ _ (tm_eq_same a) (tm_eq_same b))
-tm_eq_same (Ite a b c) = and_from _ _ (tm_eq_same a) (and_from _ _ (tm_eq_same b) (tm_eq_same c))

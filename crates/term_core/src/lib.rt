@@ -1,6 +1,8 @@
 //! Terms: the formulas that hypotheses and goals are made of, and what they are worth.
 #![tactic(auto)]
 
+mod operator;
 mod term;
 
-pub use term::{BinOp, Sequent, Sort, Term, UnOp, same, sort_of};
+pub use operator::{BinOp, CountedOp, Operator, Sort, UnOp, operator_of};
+pub use term::{Sequent, Term, same, sort_of};

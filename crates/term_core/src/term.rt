@@ -1,41 +1,11 @@
 // Terms and sequents.
 
-ghost use Rattle.std.specs.Prelude.{◌≡◌};
-ghost use Rattle.term_core.specs.Terms.{tree, tm_eq, tm_sort};
+ghost use Rattle.std.specs.Prelude.{◌≡◌, map};
+ghost use Rattle.term_core.specs.Terms.{tree, tms, tm_eq, tms_eq, tm_sort};
 
+use crate::operator::{BinOp, CountedOp, Sort, UnOp};
 use sqlite_items::{Boxed, Items};
 use x64_syntax::Text;
-
-/// What kind of value a term has: a whole number, a truth, or a word of 64 or 128 bits.
-#[derive(Clone, Copy, Debug, PartialEq, Eq)]
-pub enum Sort {
-    Int,
-    Bool,
-    W64,
-    W128,
-}
-
-/// An operator on one term.
-#[derive(Clone, Copy, Debug, PartialEq, Eq)]
-pub enum UnOp {
-    /// `int(w)`: the number of a word.
-    Int,
-}
-
-/// An operator on two terms.
-#[derive(Clone, Copy, Debug, PartialEq, Eq)]
-pub enum BinOp {
-    /// `a + b`: of whole numbers, or of words modulo 2^64.
-    Add,
-    /// `and(a, b)` of words, bit by bit.
-    And,
-    /// `xor(a, b)` of words, bit by bit.
-    Xor,
-    /// `a == b` at any one sort.
-    Eq,
-    /// `a <= b` of whole numbers.
-    Le,
-}
 
 /// A term. A name has its sort with it.
 #[derive(Debug, Drop)]
@@ -43,10 +13,20 @@ pub enum Term {
     Name(Text, Sort),
     Int(i128),
     W64(u64),
+    W128(u128),
+    Bool(bool),
     Un(UnOp, Boxed<Term>),
     Bin(BinOp, Boxed<Term>, Boxed<Term>),
     /// `ite(c, a, b)`: a where c is true, else b.
     Ite(Boxed<Term>, Boxed<Term>, Boxed<Term>),
+    /// `put(x, i, w)`: x with word i replaced, and x itself where i is outside.
+    Put(Boxed<Term>, Boxed<Term>, Boxed<Term>),
+    /// An operator with its constant, and the term.
+    Shift(CountedOp, u8, Boxed<Term>),
+    /// A function by its number, the sort of its result, and the arguments.
+    Call(u32, Sort, Items<Term>),
+    /// `forall(i, lo, hi, p)`: p for each number i from lo to hi, hi left out.
+    All(Text, Boxed<Term>, Boxed<Term>, Boxed<Term>),
 }
 
 /// Hypotheses and a goal that is to follow from them.
@@ -57,6 +37,7 @@ pub struct Sequent {
 }
 
 /// Whether two terms are the same.
+#[cycle(same)]
 pub fn same(a: &Term, b: &Term) -> bool
     ensures { result ≡ tm_eq (tree a.now) (tree b.now) }
 {
@@ -64,15 +45,44 @@ pub fn same(a: &Term, b: &Term) -> bool
         (Term::Name(a, s), Term::Name(b, t)) => a.as_bytes() == b.as_bytes() && s == t,
         (Term::Int(a), Term::Int(b)) => a == b,
         (Term::W64(a), Term::W64(b)) => a == b,
-        (Term::Un(o, a), Term::Un(p, b)) => o == p && same(a.get(), b.get()),
+        (Term::W128(a), Term::W128(b)) => a == b,
+        (Term::Bool(a), Term::Bool(b)) => a == b,
+        (Term::Un(o, a), Term::Un(p, b)) => o.is(*p) && same(a.get(), b.get()),
         (Term::Bin(o, a, b), Term::Bin(p, c, d)) => {
-            o == p && same(a.get(), c.get()) && same(b.get(), d.get())
+            o.is(*p) && same(a.get(), c.get()) && same(b.get(), d.get())
         }
-        (Term::Ite(a, b, c), Term::Ite(d, e, f)) => {
+        (Term::Ite(a, b, c), Term::Ite(d, e, f)) | (Term::Put(a, b, c), Term::Put(d, e, f)) => {
             same(a.get(), d.get()) && same(b.get(), e.get()) && same(c.get(), f.get())
+        }
+        (Term::Shift(o, m, a), Term::Shift(p, n, b)) => o.is(*p)
+            && m == n
+            && same(a.get(), b.get()),
+        (Term::Call(f, s, a), Term::Call(g, t, b)) => {
+            f == g && s == t && same_all(a.as_slice(), b.as_slice())
+        }
+        (Term::All(m, a, b, c), Term::All(n, d, e, f)) => {
+            m.as_bytes() == n.as_bytes()
+                && same(a.get(), d.get())
+                && same(b.get(), e.get())
+                && same(c.get(), f.get())
         }
         _ => false,
     }
+}
+
+#[cycle(same)]
+fn same_all(a: &[Term], b: &[Term]) -> bool
+    ensures { result ≡ tms_eq (tms (map tree a.now)) (tms (map tree b.now)) }
+{
+    if a.len() != b.len() {
+        return false;
+    }
+    for k in 0..a.len() {
+        if !same(&a[k], &b[k]) {
+            return false;
+        }
+    }
+    true
 }
 
 /// The sort of a term's value.
@@ -80,16 +90,16 @@ pub fn sort_of(t: &Term) -> Sort
     ensures { result ≡ tm_sort (tree t.now) }
 {
     match t {
-        Term::Name(_, sort) => *sort,
-        Term::Int(_) | Term::Un(UnOp::Int, _) => Sort::Int,
+        Term::Name(_, sort) | Term::Call(_, sort, _) => *sort,
+        Term::Int(_) => Sort::Int,
         Term::W64(_) => Sort::W64,
-        Term::Bin(BinOp::Add, a, _) => match sort_of(a.get()) {
-            Sort::W64 => Sort::W64,
-            Sort::Int | Sort::Bool | Sort::W128 => Sort::Int,
-        },
-        Term::Bin(BinOp::And | BinOp::Xor, _, _) => Sort::W64,
-        Term::Bin(BinOp::Eq | BinOp::Le, _, _) => Sort::Bool,
+        Term::W128(_) => Sort::W128,
+        Term::Bool(_) | Term::All(_, _, _, _) => Sort::Bool,
+        Term::Un(op, a) => op.sort(sort_of(a.get())),
+        Term::Bin(op, a, _) => op.sort(sort_of(a.get())),
         Term::Ite(_, a, _) => sort_of(a.get()),
+        Term::Put(_, _, _) => Sort::Arr,
+        Term::Shift(op, _, _) => op.sort(),
     }
 }
 
@@ -116,5 +126,12 @@ mod tests {
         assert_eq!(rt; sort_of(&numbers), Sort::Int);
         assert_eq!(rt; sort_of(&name), Sort::W64);
         Ok(())
+    }
+
+    #[test]
+    fn tells_calls_apart(rt: HostRuntime) {
+        let call = Term::Call(3, Sort::Arr, Items::new(rt.alloc()));
+        assert!(rt; same(&call, &call));
+        assert_eq!(rt; sort_of(&call), Sort::Arr);
     }
 }

@@ -13,9 +13,10 @@ use Rattle.x64_syntax.specs.declared.instructions.AluOp.TheVariants.{Add}
 use Rattle.x64_syntax.specs.declared.instructions.Ins.{Ins}
 use Rattle.x64_syntax.specs.declared.instructions.Ins.TheVariants.{Mov, Alu}
 use Rattle.x64_syntax.specs.declared.items.Item.TheVariants as item
+use Rattle.x64_syntax.specs.Programs.{has_entry, entries_differ}
 use Rattle.x64_syntax.specs.Places.{reg_number, reg_eq}
 use Rattle.x64_syntax.proofs.PlaceLemmas.{reg_eq_is}
-use Rattle.x64_meaning.specs.Condition.{is_plain, unwritten, StraightFits}
+use Rattle.x64_meaning.specs.Condition.{no_functions, is_plain, unwritten, StraightFits}
 use Rattle.x64_meaning.specs.Exp.{among}
 use Rattle.x64_meaning.specs.Table.{writes}
 use Rattle.x64_meaning.proofs.Straight.{straight_meets, straight_runs}
@@ -23,8 +24,9 @@ use Rattle.straight_line.specs.declared.form.StraightLine.{StraightLine}
 use Rattle.straight_line.specs.Form.{has, IsInstruction, IsStraight}
 use Rattle.vale_driver.specs.Certificate.{Pair, Proves}
 use Rattle.vale_driver.specs.Ring.{ring_closes}
+use Rattle.vale_driver.specs.Terms.{is_built}
 use Rattle.vale_driver.specs.Build.{contract_of, is_changed, condition_hyps, condition_goal, lowered}
-use Rattle.vale_driver.specs.Assembly.{IsItem, IsSpelled, IsProgram, ReadsAs, text_of, has_entry, distinct_entries, is_operand}
+use Rattle.vale_driver.specs.Assembly.{IsItem, IsSpelled, IsProgram, ReadsAs, text_of, is_operand}
 use Rattle.vale_driver.specs.Outcome.{Build, Held, Holds, Accepted, IsBuilt}
 use Rattle.vale_driver.specs.Stops.{SourcesSpell, CertificateHeld}
 use Rattle.vale_driver.proofs.RingSound.{ring_sound}
@@ -39,6 +41,16 @@ module _ (rs : List GeneralReg) where
   plain (Alu Add d (R s)) h = refl
   plain (Alu Add d (Imm z)) h = refl
   plain (Alu Add d (M m)) h = absurd h.1
+  plain _ h = absurd h
+
+  has_condition : (i : Ins) → IsInstruction rs i → is_built i ≡ true
+  has_condition (Mov d s) h = refl
+  has_condition (Alu Add d s) h = refl
+  has_condition _ h = absurd h
+
+  pub all_have_conditions : (is : List Ins) → AllByRecursion (IsInstruction rs) is → list_all is_built is ≡ true
+  all_have_conditions [] h = refl
+  all_have_conditions (i ∷ is) h = and_from _ _ (has_condition i h.0) (all_have_conditions is h.1)
 
   pub all_plain : (is : List Ins) → AllByRecursion (IsInstruction rs) is → list_all is_plain is ≡ true
   all_plain [] h = refl
@@ -65,14 +77,16 @@ module _ (rs : List GeneralReg) where
   unwritten_by (Alu Add d s) (Reg r) h c cr cf out = not_false _ (ap (λ b. b || false) (told_apart d r h.0 (sym (cr r) ∙ out)))
   unwritten_by (Alu Add d s) (Xmm x) h c cr cf out = refl
   unwritten_by (Alu Add d s) (Flag f) h c cr cf out = absurd (false≢true (sym out ∙ cf f))
+  unwritten_by _ q h c cr cf out = absurd h
 
   spelled : (i : Ins) → has rs Rsp ≡ false → IsInstruction rs i → IsSpelled i
   spelled (Mov d (R s)) k h = (operand d k h.0, operand s k h.1)
   spelled (Mov d (Imm z)) k h = (operand d k h.0, h.1)
   spelled (Mov d (M m)) k h = absurd h.1
-  spelled (Alu op d (R s)) k h = (operand d k h.0, operand s k h.1)
-  spelled (Alu op d (Imm z)) k h = (operand d k h.0, h.1)
-  spelled (Alu op d (M m)) k h = absurd h.1
+  spelled (Alu Add d (R s)) k h = (operand d k h.0, operand s k h.1)
+  spelled (Alu Add d (Imm z)) k h = (operand d k h.0, h.1)
+  spelled (Alu Add d (M m)) k h = absurd h.1
+  spelled _ k h = absurd h
 
   each_item : (is : List Ins) → has rs Rsp ≡ false → AllByRecursion (IsInstruction rs) is → AllByRecursion IsItem (map item.Ins is ++ item.Ret ∷ [])
   each_item [] k h = (tt, tt)
@@ -88,14 +102,14 @@ fits p ps ok closes = record {
   short = omega (arith, ok.few);
   declared = λ q out. declared p p.instructions q ok.each out;
   rsp = ok.rsp;
-  proved = ((λ a holds. ring_sound a (condition_hyps p) (condition_goal p) ps closes holds), tt);
+  proved = ((λ a holds. ring_sound no_functions a (condition_hyps p) (condition_goal p) ps closes holds), tt);
 }
 
 no_entry : (name : List ℕ) (is : List Ins) → has_entry name (map item.Ins is ++ item.Ret ∷ []) ≡ false
 no_entry name [] = refl
 no_entry name (i ∷ is) = no_entry name is
 
-no_entries : (is : List Ins) → distinct_entries (map item.Ins is ++ item.Ret ∷ []) ≡ true
+no_entries : (is : List Ins) → entries_differ (map item.Ins is ++ item.Ret ∷ []) ≡ true
 no_entries [] = refl
 no_entries (i ∷ is) = no_entries is
 

@@ -1,6 +1,6 @@
 -- What the loops over instructions and source files keep.
-use Rattle.std.proofs.Common.{◌≡◌, ℕ, ◌≤◌, List, Option, ◌++◌, map}
-use Rattle.std.specs.List.{AllByRecursion}
+use Rattle.std.proofs.Common.{◌≡◌, ℕ, ◌≤◌, Bool, true, List, Option, ◌++◌, map}
+use Rattle.std.specs.List.{AllByRecursion, list_all}
 use Rattle.x64_syntax.specs.declared.places.Place.{Place}
 use Rattle.x64_syntax.specs.declared.instructions.Ins.{Ins}
 use Rattle.term_core.specs.Terms.{Tm}
@@ -11,6 +11,7 @@ use Rattle.vale_driver.specs.declared.sources.Source.{Source as AFile}
 use Rattle.vale_driver.specs.declared.sources.Scanned.{Scanned}
 use Rattle.vale_driver.specs.Sources.{Source, numbered, FirstOf, IsShort, HasTokens, NoToken}
 use Rattle.vale_driver.specs.Outcome.{EachHolds}
+use Rattle.vale_driver.specs.Terms.{is_built}
 use Rattle.vale_driver.specs.Phases.{seen_all, scan, kept, Parsed, Parses, Unparsed}
 
 -- The equations so far, and those of what is left, are those of all. Each place was written at most once by each
@@ -19,6 +20,7 @@ pub record Hypotheses (old new : List Tm) (v : Versions) (k : ℕ) (rest all : L
   pub hyps : new ++ hypotheses v rest ≡ old ++ straight_hyps all
   pub last : end_versions v rest ≡ end_versions first_versions all
   pub few : (p : Place) → v p ≤ k
+  pub built : list_all is_built rest ≡ true
 
 abbrev pub bytes_of : List AFile → List (List ℕ)
 bytes_of ss = map (λ s. s.bytes.items) ss

@@ -1,6 +1,8 @@
 -- The versions that the checker keeps are those of the condition, and its terms the condition's.
 use Rattle.std.proofs.Common.{◌≡◌, ℕ, ◌+◌, ◌≤◌, Bool, true, false, cond, List, [], ◌∷◌, ◌++◌, map, refl, sym, ap, ◌∙◌, arith, append_assoc, lit≤, subst}
 use Rattle.std.proofs.Math.Path.{fun_ext}
+use Rattle.std.specs.List.{list_all}
+use Rattle.std.proofs.lemmas.Bool.{and_parts, false≢true}
 use Rattle.x64_syntax.specs.declared.places.Reg.{Reg as GeneralReg}
 use Rattle.x64_syntax.specs.declared.places.FlagName.TheVariants.{Cf, Zf, Sf, Of}
 use Rattle.x64_syntax.specs.declared.places.Place.{Place}
@@ -15,7 +17,7 @@ use Rattle.x64_meaning.specs.Exp.{among}
 use Rattle.x64_meaning.specs.Table.{equations, writes}
 use Rattle.x64_meaning.specs.Condition.{Versions, next_versions, hypothesis, hypotheses, straight_hyps, first_versions, end_versions}
 use Rattle.straight_line.specs.declared.form.StraightLine.{StraightLine}
-use Rattle.vale_driver.specs.Terms.{versions_of, move_term, sum_term, carry_term, zero_term, sign_term, overflow_term, addition_terms, promise_term}
+use Rattle.vale_driver.specs.Terms.{is_built, versions_of, move_term, sum_term, carry_term, zero_term, sign_term, overflow_term, addition_terms, promise_term}
 use Rattle.vale_driver.specs.Build.{condition_goal}
 use Rattle.vale_driver.proofs.Going.{Hypotheses}
 
@@ -24,16 +26,17 @@ pub pushed_move : (v : Versions) (d : GeneralReg) (s : Opr) (old : List Tm) (t :
 unfolding move_term
 pushed_move v d s old t h = ap (λ x. old ++ x ∷ []) h
 
-pub addition_built : (v : Versions) (op : AluOp) (d : GeneralReg) (s : Opr) → addition_terms v d s ≡ map (hypothesis v) (equations (Alu op d s))
+pub addition_built : (v : Versions) (op : AluOp) (d : GeneralReg) (s : Opr) → is_built (Alu op d s) ≡ true → addition_terms v d s ≡ map (hypothesis v) (equations (Alu op d s))
 unfolding sum_term carry_term zero_term sign_term overflow_term
-addition_built v Add d s = refl
+addition_built v Add d s h = refl
+addition_built v _ d s h = absurd (false≢true h)
 
 -- one more write of a register, and one of all flags
 pub passed_move : (old new : Versions) (d : GeneralReg) (s : Opr) → new ≡ next_versions old (Reg d ∷ []) → new ≡ next_versions old (writes (Mov d s))
 passed_move old new d s h = h
 
-pub passed_addition : (registers : List ℕ) (flags : ℕ) (old : Versions) (op : AluOp) (d : GeneralReg) (s : Opr) → versions_of registers flags ≡ next_versions old (Reg d ∷ []) → versions_of registers (flags + 1) ≡ next_versions old (writes (Alu op d s))
-passed_addition registers flags old Add d s h = fun_ext at_place where
+pub passed_addition : (registers : List ℕ) (flags : ℕ) (old : Versions) (op : AluOp) (d : GeneralReg) (s : Opr) → is_built (Alu op d s) ≡ true → versions_of registers flags ≡ next_versions old (Reg d ∷ []) → versions_of registers (flags + 1) ≡ next_versions old (writes (Alu op d s))
+passed_addition registers flags old Add d s built h = fun_ext at_place where
   at_place : (p : Place) → versions_of registers (flags + 1) p ≡ next_versions old (writes (Alu Add d s)) p
   at_place (Reg q) = ap (λ v. v (Reg q)) h
   at_place (Xmm x) = ap (λ v. v (Xmm x)) h
@@ -41,6 +44,7 @@ passed_addition registers flags old Add d s h = fun_ext at_place where
   at_place (Flag Zf) = ap (λ v. v (Flag Zf) + 1) h
   at_place (Flag Sf) = ap (λ v. v (Flag Sf) + 1) h
   at_place (Flag Of) = ap (λ v. v (Flag Of) + 1) h
+passed_addition registers flags old _ d s built h = absurd (false≢true built)
 
 -- a place is written at most once
 next_few : (v : Versions) (k : ℕ) (ws : List Place) → ((p : Place) → v p ≤ k) → (p : Place) → next_versions v ws p ≤ k + 1
@@ -50,8 +54,18 @@ next_few v k ws few p = by_test (among ws p) where
   by_test false = let h = few p in omega arith
 
 -- before the first instruction
-pub none_yet : (old : List Tm) (v : Versions) (is : List Ins) → v ≡ first_versions → Hypotheses old old v 0 is is
-none_yet old v is h = subst (λ w. Hypotheses old old w 0 is is) (sym h) record { hyps = refl; last = refl; few = λ p. lit≤ tt }
+pub none_yet : (old : List Tm) (v : Versions) (is : List Ins) → list_all is_built is ≡ true → v ≡ first_versions → Hypotheses old old v 0 is is
+none_yet old v is built h = subst (λ w. Hypotheses old old w 0 is is) (sym h) record { hyps = refl; last = refl; few = λ p. lit≤ tt; built = built }
+
+-- the next instruction has a condition
+pub next_built : (i : Ins) (rest front : List Ins) → front ≡ i ∷ rest → list_all is_built front ≡ true → is_built i ≡ true
+next_built i rest front split h = (and_parts (is_built i) (list_all is_built rest) (ap (list_all is_built) (sym split) ∙ h)).0
+
+-- an instruction with a condition is one of the two
+pub no_other : (i : Ins) → is_built i ≡ true → ((d : GeneralReg) (s : Opr) → i ≡ Mov d s → ⊥) → ((d : GeneralReg) (s : Opr) → i ≡ Alu Add d s → ⊥) → ⊥
+no_other (Mov d s) h move sum = move d s refl
+no_other (Alu Add d s) h move sum = sum d s refl
+no_other _ h move sum = absurd (false≢true h)
 
 -- behind one more
 pub one_more : (old mid new : List Tm) (v w : Versions) (k : ℕ) (i : Ins) (rest front all : List Ins) → front ≡ i ∷ rest → Hypotheses old mid v k front all → new ≡ mid ++ map (hypothesis v) (equations i) → w ≡ next_versions v (writes i) → Hypotheses old new w (k + 1) rest all
@@ -62,6 +76,7 @@ one_more old mid new v w k i rest front all split h pushed next =
       hyps = ap (λ l. l ++ hypotheses (next_versions v (writes i)) rest) pushed ∙ hyps;
       last = ap (λ l. end_versions v l) (sym split) ∙ h.last;
       few = next_few v k (writes i) h.few;
+      built = (and_parts (is_built i) (list_all is_built rest) (ap (list_all is_built) (sym split) ∙ h.built)).1;
     }
 
 -- the promise over the last versions is the condition's goal

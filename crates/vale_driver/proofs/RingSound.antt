@@ -5,11 +5,13 @@ use Rattle.std.specs.List.{list_all, AllByRecursion}
 use Rattle.std.proofs.lemmas.Bool.{and_parts, and_from, false≢true, eqb-true}
 use Rattle.std.proofs.lemmas.Nat.{mod_below, mul-mod_second, mul-mod_first}
 use Rattle.std.proofs.Math.Nat.{add-mod-mod, mod-add-mod, mul_assoc, add-mul-mod_self_left}
-use Rattle.term_core.specs.declared.term.Sort.TheVariants as sort
-use Rattle.term_core.specs.declared.term.BinOp.TheVariants as bin
-use Rattle.term_core.specs.Terms.{Tm, W64, Bin, tm_sort, sort_eq}
-use Rattle.term_core.specs.Value.{T, Truth, Word, word, cast, val_eq, sum_value, Assignment, value, Holds}
-use Rattle.term_core.proofs.Values.{word-lt, value-sorted, val_eq_is, val_eq_same, tm_eq_is, tm_eq_same, sort_eq_is}
+use Rattle.term_core.specs.declared.operator.Sort.TheVariants as sort
+use Rattle.term_core.specs.declared.operator.BinOp.TheVariants as bin
+use Rattle.term_core.specs.Terms.{Tm, W64, Bin, tm_sort}
+use Rattle.term_core.specs.Operators.{sort_eq}
+use Rattle.term_core.specs.Value.{T, Truth, Word, word, cast, val_eq, sum_value, Functions, Assignment, value, Holds}
+use Rattle.term_core.proofs.Values.{word-lt, value-sorted, val_eq_is, val_eq_same}
+use Rattle.term_core.proofs.Comparing.{tm_eq_is, tm_eq_same, sort_eq_is}
 use Rattle.vale_driver.specs.Certificate.{Pair}
 use Rattle.vale_driver.specs.Ring.{Occurrence, alone, of_words, occurrences, times, difference, same_atom, coefficient, balanced, Sides, sides, Weighted, weighted, closes_with, closes_sides, ring_closes}
 use Rattle.vale_driver.proofs.Pieces.{bind_some, given_some}
@@ -29,11 +31,11 @@ alike_times f a b h = sym (mul-mod_second f a T) ∙ ap (λ x. (f * x) % T) h �
 alike_mod : (a : ℕ) → Alike (a % T) a
 alike_mod a = mod-eq_of_lt (mod_below a T (omega arith))
 
-module _ (a : Assignment) where
+module _ (g : Functions) (a : Assignment) where
   -- what an atom is worth; the constant counts 1
   worth : Option Tm → ℕ
   worth None = 1
-  worth (Some t) = word (value a t)
+  worth (Some t) = word (value g a t)
 
   -- what occurrences are worth together
   total : List Occurrence → ℕ
@@ -45,24 +47,24 @@ module _ (a : Assignment) where
   total-append [] ps = omega arith
   total-append (o ∷ os) ps = ap (λ n. o.coefficient * worth o.atom + n) (total-append os ps) ∙ omega arith
 
-  total-alone : (t : Tm) → Alike (word (value a t)) (total (alone t))
+  total-alone : (t : Tm) → Alike (word (value g a t)) (total (alone t))
   unfolding total worth
   total-alone t = ap (λ n. n % T) (omega arith)
 
-  sum_worth : (t u : Tm) → sort_eq (tm_sort t) sort.W64 ≡ true → word (value a (Bin bin.Add t u)) % T ≡ (word (value a t) + word (value a u)) % T
+  sum_worth : (t u : Tm) → sort_eq (tm_sort t) sort.W64 ≡ true → word (value g a (Bin bin.Add t u)) % T ≡ (word (value g a t) + word (value g a u)) % T
   sum_worth t u h =
       let s = sort_eq_is (tm_sort t) sort.W64 h in
-      ap (λ s. word (sum_value s (value a t) (value a u)) % T) s
-      ∙ ap (λ n. n % T) (mod-eq_of_lt (mod_below (word (value a t) + word (value a u)) T (omega arith)))
-      ∙ alike_mod (word (value a t) + word (value a u))
+      ap (λ s. word (sum_value s (value g a t) (value g a u)) % T) s
+      ∙ ap (λ n. n % T) (mod-eq_of_lt (mod_below (word (value g a t) + word (value g a u)) T (omega arith)))
+      ∙ alike_mod (word (value g a t) + word (value g a u))
 
   -- the occurrences in a term are worth what it is
-  total-occurrences : (t : Tm) → Alike (word (value a t)) (total (occurrences t))
+  total-occurrences : (t : Tm) → Alike (word (value g a t)) (total (occurrences t))
   unfolding total worth
   total-occurrences (W64 n) = ap (λ m. m % T) (mod-eq_of_lt (mod_below n T (omega arith)) ∙ omega arith)
   total-occurrences (Bin bin.Add t u) = by_sort (sort_eq (tm_sort t) sort.W64) refl (total-occurrences t) (total-occurrences u)
     where
-      by_sort : (b : Bool) → sort_eq (tm_sort t) sort.W64 ≡ b → Alike (word (value a t)) (total (occurrences t)) → Alike (word (value a u)) (total (occurrences u)) → Alike (word (value a (Bin bin.Add t u))) (total (cond b (occurrences t ++ occurrences u) (alone (Bin bin.Add t u))))
+      by_sort : (b : Bool) → sort_eq (tm_sort t) sort.W64 ≡ b → Alike (word (value g a t)) (total (occurrences t)) → Alike (word (value g a u)) (total (occurrences u)) → Alike (word (value g a (Bin bin.Add t u))) (total (cond b (occurrences t ++ occurrences u) (alone (Bin bin.Add t u))))
       by_sort true e ht hu = sum_worth t u e ∙ alike_add _ _ _ _ ht hu ∙ ap (λ n. n % T) (sym (total-append (occurrences t) (occurrences u)))
       by_sort false e ht hu = total-alone (Bin bin.Add t u)
   total-occurrences t = total-alone t
@@ -227,14 +229,14 @@ module _ (a : Assignment) where
       by_case m (inr e) = let p = absent_parts m left right e in coefficient-absent m left p.0 ∙ sym (coefficient-absent m right p.1)
 
   -- what a difference is worth
-  total-difference : (l r : Tm) → Alike (total (difference l r)) (word (value a l) + (T - 1) * word (value a r))
+  total-difference : (l r : Tm) → Alike (total (difference l r)) (word (value g a l) + (T - 1) * word (value g a r))
   total-difference l r =
       ap (λ n. n % T) (total-append (occurrences l) (times (T - 1) (occurrences r)))
       ∙ alike_add _ _ _ _ (sym (total-occurrences l)) (total-times (T - 1) (occurrences r) ∙ alike_times (T - 1) _ _ (sym (total-occurrences r)))
 
-  difference_none : (l r : Tm) → value a l ≡ value a r → Alike (total (difference l r)) 0
+  difference_none : (l r : Tm) → value g a l ≡ value g a r → Alike (total (difference l r)) 0
   difference_none l r h =
-      let w = word (value a r) in
+      let w = word (value g a r) in
       let e : w + (T - 1) * w ≡ 0 + T * w = omega arith in
       total-difference l r ∙ ap (λ v. (word v + (T - 1) * w) % T) h ∙ ap (λ n. n % T) e ∙ add-mul-mod_self_left 0 T w
 
@@ -251,37 +253,37 @@ module _ (a : Assignment) where
   truth_same : (b c : Bool) → Truth b ≡ Truth c → b ≡ c
   truth_same b c h = cc
 
-  holds_sides : (t : Tm) (s : Sides) → sides t ≡ Some s → Holds a t → value a s.left ≡ value a s.right
+  holds_sides : (t : Tm) (s : Sides) → sides t ≡ Some s → Holds g a t → value g a s.left ≡ value g a s.right
   holds_sides t s h ok =
       let e = sides_are t s h in
-      val_eq_is _ _ (truth_same _ _ (ap (value a) (sym e.0) ∙ ok))
+      val_eq_is _ _ (truth_same _ _ (ap (value g a) (sym e.0) ∙ ok))
 
   -- a word is told by its number
-  word_is : (t : Tm) → of_words t ≡ true → value a t ≡ Word (word (value a t))
-  word_is t h = sym (subst (λ s. cast s (value a t) ≡ value a t) (sort_eq_is (tm_sort t) sort.W64 h) (value-sorted a t))
+  word_is : (t : Tm) → of_words t ≡ true → value g a t ≡ Word (word (value g a t))
+  word_is t h = sym (subst (λ s. cast s (value g a t) ≡ value g a t) (sort_eq_is (tm_sort t) sort.W64 h) (value-sorted g a t))
 
-  sides_hold : (t : Tm) (s : Sides) → sides t ≡ Some s → Alike (total (difference s.left s.right)) 0 → Holds a t
+  sides_hold : (t : Tm) (s : Sides) → sides t ≡ Some s → Alike (total (difference s.left s.right)) 0 → Holds g a t
   sides_hold t s h none =
       let e = sides_are t s h in
-      let x = word (value a s.left) in
-      let y = word (value a s.right) in
+      let x = word (value g a s.left) in
+      let y = word (value g a s.right) in
       let sum : Alike (x + (T - 1) * y) 0 = sym (total-difference s.left s.right) ∙ none in
-      let lx : x < T = word-lt (value a s.left) in
-      let ly : y < T = word-lt (value a s.right) in
+      let lx : x < T = word-lt (value g a s.left) in
+      let ly : y < T = word-lt (value g a s.right) in
       let both : (x + (T - 1) * y) + y ≡ x + T * y = omega arith in
       let left : (x + T * y) % T ≡ x % T = add-mul-mod_self_left x T y in
       let alike : Alike x y = sym left ∙ ap (λ n. n % T) (sym both) ∙ alike_add (x + (T - 1) * y) 0 y y sum refl ∙ (let z : 0 + y ≡ y = omega arith in ap (λ n. n % T) z) in
       let same : x ≡ y = sym (mod-eq_of_lt lx) ∙ alike ∙ mod-eq_of_lt ly in
-      let equal : value a s.left ≡ value a s.right = word_is s.left e.1 ∙ ap Word same ∙ sym (word_is s.right e.2) in
-      ap (value a) e.0 ∙ ap Truth (ap (val_eq (value a s.left)) (sym equal) ∙ val_eq_same (value a s.left))
+      let equal : value g a s.left ≡ value g a s.right = word_is s.left e.1 ∙ ap Word same ∙ sym (word_is s.right e.2) in
+      ap (value g a) e.0 ∙ ap Truth (ap (val_eq (value g a s.left)) (sym equal) ∙ val_eq_same (value g a s.left))
 
-  hyp_holds : (hyps : List Tm) (i : ℕ) (t : Tm) → slice_get hyps i ≡ Some t → AllByRecursion (Holds a) hyps → Holds a t
+  hyp_holds : (hyps : List Tm) (i : ℕ) (t : Tm) → slice_get hyps i ≡ Some t → AllByRecursion (Holds g a) hyps → Holds g a t
   hyp_holds [] i t h ok = absurd cc
-  hyp_holds (x ∷ hyps) zero t h ok = let e : x ≡ t = cc in subst (Holds a) e ok.0
+  hyp_holds (x ∷ hyps) zero t h ok = let e : x ≡ t = cc in subst (Holds g a) e ok.0
   hyp_holds (x ∷ hyps) (suc i) t h ok = hyp_holds hyps i t h ok.1
 
   -- hypotheses that hold are worth nothing together
-  weighted_none : (hyps : List Tm) → AllByRecursion (Holds a) hyps → (ps : List Pair) (w : Weighted) → weighted hyps ps ≡ Some w → Alike (total w.occurrences_) 0
+  weighted_none : (hyps : List Tm) → AllByRecursion (Holds g a) hyps → (ps : List Pair) (w : Weighted) → weighted hyps ps ≡ Some w → Alike (total w.occurrences_) 0
   unfolding total
   weighted_none hyps ok [] w h = let e : record { occurrences_ = []; width_ = 0 } ≡ w = of_some _ _ h in ap (λ (x : Weighted). total x.occurrences_ % T) (sym e) ∙ nothing
     where
@@ -305,16 +307,16 @@ module _ (a : Assignment) where
       of_some : (x y : Weighted) → Some x ≡ Some y → x ≡ y
       of_some x y h = cc
 
-  pub ring_sound : (hyps : List Tm) (goal : Tm) (ps : List Pair) → ring_closes hyps goal ps ≡ true → AllByRecursion (Holds a) hyps → Holds a goal
+  pub ring_sound : (hyps : List Tm) (goal : Tm) (ps : List Pair) → ring_closes hyps goal ps ≡ true → AllByRecursion (Holds g a) hyps → Holds g a goal
   ring_sound hyps goal ps h ok = by_sides (sides goal) refl h
     where
-      by_weighted : (g : Sides) (o : Option Weighted) → weighted hyps ps ≡ o → closes_with g o ≡ true → Alike (total (difference g.left g.right)) 0
-      by_weighted g None e h = absurd (false≢true h)
-      by_weighted g (Some w) e h =
-          let p = and_parts _ (balanced (difference g.left g.right) w.occurrences_) h in
-          total-agrees (length (difference g.left g.right) + length w.occurrences_) (difference g.left g.right) w.occurrences_ (omega arith) (agrees-balanced _ _ p.1)
+      by_weighted : (x : Sides) (o : Option Weighted) → weighted hyps ps ≡ o → closes_with x o ≡ true → Alike (total (difference x.left x.right)) 0
+      by_weighted x None e h = absurd (false≢true h)
+      by_weighted x (Some w) e h =
+          let p = and_parts _ (balanced (difference x.left x.right) w.occurrences_) h in
+          total-agrees (length (difference x.left x.right) + length w.occurrences_) (difference x.left x.right) w.occurrences_ (omega arith) (agrees-balanced _ _ p.1)
           ∙ weighted_none hyps ok ps w e
 
-      by_sides : (o : Option Sides) → sides goal ≡ o → closes_sides hyps ps o ≡ true → Holds a goal
+      by_sides : (o : Option Sides) → sides goal ≡ o → closes_sides hyps ps o ≡ true → Holds g a goal
       by_sides None e h = absurd (false≢true h)
-      by_sides (Some g) e h = sides_hold goal g e (by_weighted g (weighted hyps ps) refl h)
+      by_sides (Some x) e h = sides_hold goal x e (by_weighted x (weighted hyps ps) refl h)

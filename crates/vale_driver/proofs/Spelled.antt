@@ -1,5 +1,5 @@
 -- No two lists of items have one text.
-use Rattle.std.proofs.Common.{◌≡◌, ℕ, suc, ◌%◌, ◌<◌, ◌^◌, ℤ, pos, negsuc, Bool, true, false, List, [], ◌∷◌, ◌++◌, Some, refl, sym, ap, ◌∙◌, arith, ◌||◌, decimal, eqb, mod-eq_of_lt, get_or, drop}
+use Rattle.std.proofs.Common.{◌≡◌, ℕ, suc, ◌%◌, ◌<◌, ◌^◌, ℤ, pos, negsuc, Bool, true, false, List, [], ◌∷◌, ◌++◌, Some, refl, sym, ap, ◌∙◌, subst, arith, ◌||◌, decimal, eqb, mod-eq_of_lt, get_or, drop}
 use Rattle.std.specs.Prelude.{codes}
 use Rattle.std.specs.Fmt.{signed_decimal}
 use Rattle.std.specs.List.{list_all, AllByRecursion}
@@ -9,15 +9,14 @@ use Rattle.std.proofs.lemmas.Int.{ints}
 use Rattle.std.proofs.lemmas.Nat.{mod_below}
 use lib.Signed.{mag}
 use Rattle.x64_syntax.specs.declared.places.Reg.{Reg}
-use Rattle.x64_syntax.specs.declared.operands.Opr.TheVariants.{R, Imm, M}
+use Rattle.x64_syntax.specs.declared.operands.Opr.TheVariants.{R, Imm}
 use Rattle.x64_syntax.specs.declared.instructions.AluOp.TheVariants.{Add}
 use Rattle.x64_syntax.specs.declared.instructions.Ins.TheVariants.{Mov, Alu}
 use Rattle.x64_syntax.specs.declared.items.Item.{Item}
 use Rattle.x64_syntax.specs.declared.items.Item.TheVariants as item
 use Rattle.x64_syntax.specs.Places.{reg_name, reg_of}
 use Rattle.x64_syntax.specs.Words.{is_name_byte, is_digit_byte, is_export_text}
-use Rattle.x64_meaning.specs.Table.{word_of}
-use Rattle.term_core.specs.Value.{T}
+use Rattle.term_core.specs.Value.{T, word_of}
 use Rattle.vale_driver.specs.Assembly.{item_text, items_text, IsWide, IsShort, IsItem, ReadsAs}
 use Rattle.vale_driver.proofs.Pieces.{stops, span_front, digits-decimal, reg_of-reg_name, reg_name-bytes}
 use Rattle.vale_driver.specs.Reading.{span}
@@ -123,81 +122,104 @@ name_bytes name h = (and_parts _ (list_all is_name_byte name) (and_parts _ _ (an
 nothing : (b : ℕ) (bs : List ℕ) → b ∷ bs ≡ [] → ⊥
 nothing b bs e = absurd cc
 
+-- the items that have a spelling
+data Spelt : Type 0 where
+  Moved : Reg → Reg → Spelt
+  MovedConstant : Reg → ℤ → Spelt
+  Added : Reg → Reg → Spelt
+  AddedConstant : Reg → ℤ → Spelt
+  Returned : Spelt
+  Entered : List ℕ → Spelt
+
+abbrev item_of : Spelt → Item
+item_of (Moved d s) = item.Ins (Mov d (R s))
+item_of (MovedConstant d z) = item.Ins (Mov d (Imm z))
+item_of (Added d s) = item.Ins (Alu Add d (R s))
+item_of (AddedConstant d z) = item.Ins (Alu Add d (Imm z))
+item_of Returned = item.Ret
+item_of (Entered name) = item.Entry name
+
+spelt : (i : Item) → IsItem i → (s : Spelt) × (i ≡ item_of s)
+spelt (item.Ins (Mov d (R s))) h = (Moved d s, refl)
+spelt (item.Ins (Mov d (Imm z))) h = (MovedConstant d z, refl)
+spelt (item.Ins (Alu Add d (R s))) h = (Added d s, refl)
+spelt (item.Ins (Alu Add d (Imm z))) h = (AddedConstant d z, refl)
+spelt item.Ret h = (Returned, refl)
+spelt (item.Entry name) h = (Entered name, refl)
+spelt _ h = absurd h
+
 -- an item is told from its text, whatever follows
-item_front : (i j : Item) (x y : List ℕ) → IsItem i → IsItem j → item_text i x ≡ item_text j y → (i ≡ j) × (x ≡ y)
-item_front (item.Ins (Mov d (R s))) (item.Ins (Mov d' (R s'))) x y h k e =
+line_front : (i j : Spelt) (x y : List ℕ) → IsItem (item_of i) → IsItem (item_of j) → item_text (item_of i) x ≡ item_text (item_of j) y → (item_of i ≡ item_of j) × (x ≡ y)
+line_front (Moved d s) (Moved d' s') x y h k e =
     let f = two_regs s s' d d' x y (ap (λ (l : List ℕ). drop 7 l) e) in
     (ap (λ r. item.Ins (Mov r (R s))) f.1 ∙ ap (λ r. item.Ins (Mov d' (R r))) f.0, f.2)
-item_front (item.Ins (Mov d (R s))) (item.Ins (Mov d' (Imm s'))) x y h k e = absurd (differ 4 _ _ e refl)
-item_front (item.Ins (Mov d (R s))) (item.Ins (Alu Add d' (R s'))) x y h k e = absurd (differ 1 _ _ e refl)
-item_front (item.Ins (Mov d (R s))) (item.Ins (Alu Add d' (Imm s'))) x y h k e = absurd (differ 1 _ _ e refl)
-item_front (item.Ins (Mov d (R s))) item.Ret x y h k e = absurd (differ 1 _ _ e refl)
-item_front (item.Ins (Mov d (R s))) (item.Entry n') x y h k e = absurd (differ 0 _ _ e refl)
-item_front (item.Ins (Mov d (Imm s))) (item.Ins (Mov d' (R s'))) x y h k e = absurd (differ 4 _ _ e refl)
-item_front (item.Ins (Mov d (Imm s))) (item.Ins (Mov d' (Imm s'))) x y h k e =
+line_front (Moved d s) (MovedConstant d' s') x y h k e = absurd (differ 4 _ _ e refl)
+line_front (Moved d s) (Added d' s') x y h k e = absurd (differ 1 _ _ e refl)
+line_front (Moved d s) (AddedConstant d' s') x y h k e = absurd (differ 1 _ _ e refl)
+line_front (Moved d s) Returned x y h k e = absurd (differ 1 _ _ e refl)
+line_front (Moved d s) (Entered n') x y h k e = absurd (differ 0 _ _ e refl)
+line_front (MovedConstant d s) (Moved d' s') x y h k e = absurd (differ 4 _ _ e refl)
+line_front (MovedConstant d s) (MovedConstant d' s') x y h k e =
     let f = number_front (word_of s) (word_of s') (codes ", %" ++ (reg_name d ++ (codes "\n" ++ x))) (codes ", %" ++ (reg_name d' ++ (codes "\n" ++ y))) (word_of-lt s) (word_of-lt s') refl refl (ap (λ (l : List ℕ). drop 10 l) e) in
     let g = last_reg d d' x y (ap (λ (l : List ℕ). drop 3 l) f.1) in
     (ap (λ r. item.Ins (Mov r (Imm s))) g.0 ∙ ap (λ z. item.Ins (Mov d' (Imm z))) (word_of_same s s' h.1 k.1 f.0), g.1)
-item_front (item.Ins (Mov d (Imm s))) (item.Ins (Alu Add d' (R s'))) x y h k e = absurd (differ 1 _ _ e refl)
-item_front (item.Ins (Mov d (Imm s))) (item.Ins (Alu Add d' (Imm s'))) x y h k e = absurd (differ 1 _ _ e refl)
-item_front (item.Ins (Mov d (Imm s))) item.Ret x y h k e = absurd (differ 1 _ _ e refl)
-item_front (item.Ins (Mov d (Imm s))) (item.Entry n') x y h k e = absurd (differ 0 _ _ e refl)
-item_front (item.Ins (Alu Add d (R s))) (item.Ins (Mov d' (R s'))) x y h k e = absurd (differ 1 _ _ e refl)
-item_front (item.Ins (Alu Add d (R s))) (item.Ins (Mov d' (Imm s'))) x y h k e = absurd (differ 1 _ _ e refl)
-item_front (item.Ins (Alu Add d (R s))) (item.Ins (Alu Add d' (R s'))) x y h k e =
+line_front (MovedConstant d s) (Added d' s') x y h k e = absurd (differ 1 _ _ e refl)
+line_front (MovedConstant d s) (AddedConstant d' s') x y h k e = absurd (differ 1 _ _ e refl)
+line_front (MovedConstant d s) Returned x y h k e = absurd (differ 1 _ _ e refl)
+line_front (MovedConstant d s) (Entered n') x y h k e = absurd (differ 0 _ _ e refl)
+line_front (Added d s) (Moved d' s') x y h k e = absurd (differ 1 _ _ e refl)
+line_front (Added d s) (MovedConstant d' s') x y h k e = absurd (differ 1 _ _ e refl)
+line_front (Added d s) (Added d' s') x y h k e =
     let f = two_regs s s' d d' x y (ap (λ (l : List ℕ). drop 7 l) e) in
     (ap (λ r. item.Ins (Alu Add r (R s))) f.1 ∙ ap (λ r. item.Ins (Alu Add d' (R r))) f.0, f.2)
-item_front (item.Ins (Alu Add d (R s))) (item.Ins (Alu Add d' (Imm s'))) x y h k e = absurd (differ 6 _ _ e refl)
-item_front (item.Ins (Alu Add d (R s))) item.Ret x y h k e = absurd (differ 1 _ _ e refl)
-item_front (item.Ins (Alu Add d (R s))) (item.Entry n') x y h k e = absurd (differ 0 _ _ e refl)
-item_front (item.Ins (Alu Add d (Imm s))) (item.Ins (Mov d' (R s'))) x y h k e = absurd (differ 1 _ _ e refl)
-item_front (item.Ins (Alu Add d (Imm s))) (item.Ins (Mov d' (Imm s'))) x y h k e = absurd (differ 1 _ _ e refl)
-item_front (item.Ins (Alu Add d (Imm s))) (item.Ins (Alu Add d' (R s'))) x y h k e = absurd (differ 6 _ _ e refl)
-item_front (item.Ins (Alu Add d (Imm s))) (item.Ins (Alu Add d' (Imm s'))) x y h k e =
+line_front (Added d s) (AddedConstant d' s') x y h k e = absurd (differ 6 _ _ e refl)
+line_front (Added d s) Returned x y h k e = absurd (differ 1 _ _ e refl)
+line_front (Added d s) (Entered n') x y h k e = absurd (differ 0 _ _ e refl)
+line_front (AddedConstant d s) (Moved d' s') x y h k e = absurd (differ 1 _ _ e refl)
+line_front (AddedConstant d s) (MovedConstant d' s') x y h k e = absurd (differ 1 _ _ e refl)
+line_front (AddedConstant d s) (Added d' s') x y h k e = absurd (differ 6 _ _ e refl)
+line_front (AddedConstant d s) (AddedConstant d' s') x y h k e =
     let f = signed_front s s' (codes "%" ++ (reg_name d ++ (codes "\n" ++ x))) (codes "%" ++ (reg_name d' ++ (codes "\n" ++ y))) h.1 k.1 (ap (λ (l : List ℕ). drop 7 l) e) in
     let g = last_reg d d' x y (ap (λ (l : List ℕ). drop 1 l) f.1) in
     (ap (λ r. item.Ins (Alu Add r (Imm s))) g.0 ∙ ap (λ z. item.Ins (Alu Add d' (Imm z))) f.0, g.1)
-item_front (item.Ins (Alu Add d (Imm s))) item.Ret x y h k e = absurd (differ 1 _ _ e refl)
-item_front (item.Ins (Alu Add d (Imm s))) (item.Entry n') x y h k e = absurd (differ 0 _ _ e refl)
-item_front item.Ret (item.Ins (Mov d' (R s'))) x y h k e = absurd (differ 1 _ _ e refl)
-item_front item.Ret (item.Ins (Mov d' (Imm s'))) x y h k e = absurd (differ 1 _ _ e refl)
-item_front item.Ret (item.Ins (Alu Add d' (R s'))) x y h k e = absurd (differ 1 _ _ e refl)
-item_front item.Ret (item.Ins (Alu Add d' (Imm s'))) x y h k e = absurd (differ 1 _ _ e refl)
-item_front item.Ret item.Ret x y h k e =
+line_front (AddedConstant d s) Returned x y h k e = absurd (differ 1 _ _ e refl)
+line_front (AddedConstant d s) (Entered n') x y h k e = absurd (differ 0 _ _ e refl)
+line_front Returned (Moved d' s') x y h k e = absurd (differ 1 _ _ e refl)
+line_front Returned (MovedConstant d' s') x y h k e = absurd (differ 1 _ _ e refl)
+line_front Returned (Added d' s') x y h k e = absurd (differ 1 _ _ e refl)
+line_front Returned (AddedConstant d' s') x y h k e = absurd (differ 1 _ _ e refl)
+line_front Returned Returned x y h k e =
     (refl, ap (λ (l : List ℕ). drop 5 l) e)
-item_front item.Ret (item.Entry n') x y h k e = absurd (differ 0 _ _ e refl)
-item_front (item.Entry n) (item.Ins (Mov d' (R s'))) x y h k e = absurd (differ 0 _ _ e refl)
-item_front (item.Entry n) (item.Ins (Mov d' (Imm s'))) x y h k e = absurd (differ 0 _ _ e refl)
-item_front (item.Entry n) (item.Ins (Alu Add d' (R s'))) x y h k e = absurd (differ 0 _ _ e refl)
-item_front (item.Entry n) (item.Ins (Alu Add d' (Imm s'))) x y h k e = absurd (differ 0 _ _ e refl)
-item_front (item.Entry n) item.Ret x y h k e = absurd (differ 0 _ _ e refl)
-item_front (item.Entry n) (item.Entry n') x y h k e =
+line_front Returned (Entered n') x y h k e = absurd (differ 0 _ _ e refl)
+line_front (Entered n) (Moved d' s') x y h k e = absurd (differ 0 _ _ e refl)
+line_front (Entered n) (MovedConstant d' s') x y h k e = absurd (differ 0 _ _ e refl)
+line_front (Entered n) (Added d' s') x y h k e = absurd (differ 0 _ _ e refl)
+line_front (Entered n) (AddedConstant d' s') x y h k e = absurd (differ 0 _ _ e refl)
+line_front (Entered n) Returned x y h k e = absurd (differ 0 _ _ e refl)
+line_front (Entered n) (Entered n') x y h k e =
     let f = front_same is_name_byte n n' (codes "\n" ++ (n ++ (codes ":\n" ++ x))) (codes "\n" ++ (n' ++ (codes ":\n" ++ y))) (name_bytes n h) (name_bytes n' k) refl refl (ap (λ (l : List ℕ). drop 7 l) e) in
     let g = front_same is_name_byte n n' (codes ":\n" ++ x) (codes ":\n" ++ y) (name_bytes n h) (name_bytes n' k) refl refl (ap (λ (l : List ℕ). drop 1 l) f.1) in
     (ap item.Entry f.0, ap (λ (l : List ℕ). drop 2 l) g.1)
-item_front (item.Ins (Mov d (M m))) j x y h k e = absurd h
-item_front (item.Ins (Alu op d (M m))) j x y h k e = absurd h
-item_front (item.Label l) j x y h k e = absurd h
-item_front (item.Jmp l) j x y h k e = absurd h
-item_front (item.Jcc c l) j x y h k e = absurd h
-item_front i (item.Ins (Mov d (M m))) x y h k e = absurd k
-item_front i (item.Ins (Alu op d (M m))) x y h k e = absurd k
-item_front i (item.Label l) x y h k e = absurd k
-item_front i (item.Jmp l) x y h k e = absurd k
-item_front i (item.Jcc c l) x y h k e = absurd k
+
+line_some : (i : Spelt) (x : List ℕ) → item_text (item_of i) x ≡ [] → ⊥
+line_some (Moved d s) x e = nothing _ _ e
+line_some (MovedConstant d s) x e = nothing _ _ e
+line_some (Added d s) x e = nothing _ _ e
+line_some (AddedConstant d s) x e = nothing _ _ e
+line_some Returned x e = nothing _ _ e
+line_some (Entered n) x e = nothing _ _ e
+
+item_front : (i j : Item) (x y : List ℕ) → IsItem i → IsItem j → item_text i x ≡ item_text j y → (i ≡ j) × (x ≡ y)
+item_front i j x y h k e =
+    let u = spelt i h in
+    let v = spelt j k in
+    let f = line_front u.0 v.0 x y (subst IsItem u.1 h) (subst IsItem v.1 k) (ap (λ z. item_text z x) (sym u.1) ∙ e ∙ ap (λ z. item_text z y) v.1) in
+    (u.1 ∙ f.0 ∙ sym v.1, f.1)
 
 item_some : (i : Item) (x : List ℕ) → IsItem i → item_text i x ≡ [] → ⊥
-item_some (item.Ins (Mov d (R s))) x h e = nothing _ _ e
-item_some (item.Ins (Mov d (Imm s))) x h e = nothing _ _ e
-item_some (item.Ins (Alu Add d (R s))) x h e = nothing _ _ e
-item_some (item.Ins (Alu Add d (Imm s))) x h e = nothing _ _ e
-item_some item.Ret x h e = nothing _ _ e
-item_some (item.Entry n) x h e = nothing _ _ e
-item_some (item.Ins (Mov d (M m))) x h e = h
-item_some (item.Ins (Alu op d (M m))) x h e = h
-item_some (item.Label l) x h e = h
-item_some (item.Jmp l) x h e = h
-item_some (item.Jcc c l) x h e = h
+item_some i x h e =
+    let u = spelt i h in
+    line_some u.0 x (ap (λ z. item_text z x) (sym u.1) ∙ e)
 
 items_same : (is js : List Item) → AllByRecursion IsItem is → AllByRecursion IsItem js → items_text is ≡ items_text js → is ≡ js
 items_same [] [] h k e = refl

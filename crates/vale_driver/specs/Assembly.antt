@@ -1,12 +1,10 @@
 -- Assembler text: the one spelling of each item in GAS syntax, and what reads as which items.
-use Rattle.std.specs.Prelude.{◌≡◌, ℕ, ◌^◌, ℤ, pos, negsuc, ◌≤ℤ◌, ◌<ℤ◌, Bool, true, false, not, ◌&&◌, ◌==◌, if◌then◌else◌, ◌-◌, List, [], ◌∷◌, ◌++◌, decimal, codes}
+use Rattle.std.specs.Prelude.{◌≡◌, ℕ, ◌^◌, ℤ, pos, negsuc, ◌≤ℤ◌, ◌<ℤ◌, Bool, true, not, ◌==◌, ◌-◌, List, [], ◌∷◌, ◌++◌, decimal, codes}
 use Rattle.std.specs.Fmt.{signed_decimal}
 use Rattle.std.specs.List.{AllByRecursion}
-use Rattle.std.specs.Str.{bytes_eq}
 use Rattle.x64_syntax.specs.declared.places.Reg.{Reg}
 use Rattle.x64_syntax.specs.declared.operands.Opr.{Opr}
 use Rattle.x64_syntax.specs.declared.operands.Opr.TheVariants.{R, Imm, M}
-use Rattle.x64_syntax.specs.declared.instructions.AluOp.{AluOp}
 use Rattle.x64_syntax.specs.declared.instructions.AluOp.TheVariants.{Add}
 use Rattle.x64_syntax.specs.declared.instructions.Ins.{Ins}
 use Rattle.x64_syntax.specs.declared.instructions.Ins.TheVariants.{Mov, Alu}
@@ -14,7 +12,8 @@ use Rattle.x64_syntax.specs.declared.items.Item.{Item}
 use Rattle.x64_syntax.specs.declared.items.Item.TheVariants as item
 use Rattle.x64_syntax.specs.Places.{reg_name, reg_number}
 use Rattle.x64_syntax.specs.Words.{is_export_text}
-use Rattle.x64_meaning.specs.Table.{word_of}
+use Rattle.x64_syntax.specs.Programs.{begins_with_entry, entries_differ}
+use Rattle.term_core.specs.Value.{word_of}
 
 -- a register's spelling, as `%rax`
 abbrev pub reg_text : Reg → List ℕ → List ℕ
@@ -26,16 +25,13 @@ source_text (R r) rest = reg_text r (codes ", " ++ rest)
 source_text (Imm z) rest = codes "$" ++ (signed_decimal z ++ (codes ", " ++ rest))
 source_text (M m) rest = rest
 
-abbrev pub mnemonic : AluOp → List ℕ
-mnemonic Add = codes "\taddq "
-
 -- An instruction's line: its source first. A constant that is moved has its own mnemonic, and no sign.
 abbrev pub ins_text : Ins → List ℕ → List ℕ
 ins_text (Mov d (R s)) rest = codes "\tmovq " ++ source_text (R s) (reg_text d (codes "\n" ++ rest))
 ins_text (Mov d (Imm z)) rest = codes "\tmovabsq $" ++ (decimal (word_of z) ++ (codes ", " ++ reg_text d (codes "\n" ++ rest)))
-ins_text (Mov d (M m)) rest = rest
-ins_text (Alu op d (M m)) rest = rest
-ins_text (Alu op d s) rest = mnemonic op ++ source_text s (reg_text d (codes "\n" ++ rest))
+ins_text (Alu Add d (R s)) rest = codes "\taddq " ++ source_text (R s) (reg_text d (codes "\n" ++ rest))
+ins_text (Alu Add d (Imm z)) rest = codes "\taddq " ++ source_text (Imm z) (reg_text d (codes "\n" ++ rest))
+ins_text _ rest = rest
 
 -- an item's lines, and what follows
 abbrev pub item_text : Item → List ℕ → List ℕ
@@ -69,10 +65,9 @@ IsShort z = (negsuc (2 ^ 31 - 1) ≤ℤ z) × (z <ℤ pos (2 ^ 31))
 abbrev pub IsSpelled : Ins → Type 0
 IsSpelled (Mov d (R s)) = (is_operand d ≡ true) × (is_operand s ≡ true)
 IsSpelled (Mov d (Imm z)) = (is_operand d ≡ true) × IsWide z
-IsSpelled (Mov d (M m)) = ⊥
-IsSpelled (Alu op d (R s)) = (is_operand d ≡ true) × (is_operand s ≡ true)
-IsSpelled (Alu op d (Imm z)) = (is_operand d ≡ true) × IsShort z
-IsSpelled (Alu op d (M m)) = ⊥
+IsSpelled (Alu Add d (R s)) = (is_operand d ≡ true) × (is_operand s ≡ true)
+IsSpelled (Alu Add d (Imm z)) = (is_operand d ≡ true) × IsShort z
+IsSpelled _ = ⊥
 
 abbrev pub IsItem : Item → Type 0
 IsItem (item.Ins i) = IsSpelled i
@@ -82,28 +77,11 @@ IsItem (item.Label l) = ⊥
 IsItem (item.Jmp l) = ⊥
 IsItem (item.Jcc c l) = ⊥
 
--- an entry of this name is among the items
-abbrev pub has_entry : List ℕ → List Item → Bool
-has_entry name [] = false
-has_entry name (item.Entry other ∷ items) = if bytes_eq name other then true else has_entry name items
-has_entry name (_ ∷ items) = has_entry name items
-
--- the names of entries are told apart
-abbrev pub distinct_entries : List Item → Bool
-distinct_entries [] = true
-distinct_entries (item.Entry name ∷ items) = not (has_entry name items) && distinct_entries items
-distinct_entries (_ ∷ items) = distinct_entries items
-
-abbrev pub begins_with_entry : List Item → Bool
-begins_with_entry [] = true
-begins_with_entry (item.Entry name ∷ items) = true
-begins_with_entry (_ ∷ items) = false
-
 -- A list of items that has a text: it begins with an entry, entries are allowed and told apart, and instructions are
 -- those that have a spelling.
 pub record IsProgram (items : List Item) : Type 0 where
   pub entry : begins_with_entry items ≡ true
-  pub distinct : distinct_entries items ≡ true
+  pub distinct : entries_differ items ≡ true
   pub each : AllByRecursion IsItem items
 
 -- the bytes read as these items

@@ -3,7 +3,7 @@ use Rattle.std.specs.Prelude.{Bool, true, false, List, [], ◌∷◌}
 use Rattle.x64_syntax.specs.declared.places.Place.{Place}
 use Rattle.x64_syntax.specs.declared.places.Place.TheVariants.{Reg, Xmm, Flag}
 use Rattle.x64_syntax.specs.declared.items.Item.{Item}
-use Rattle.term_core.specs.declared.term.BinOp.TheVariants as bin
+use Rattle.term_core.specs.declared.operator.BinOp.TheVariants as bin
 use Rattle.term_core.specs.Terms.{Tm}
 use Rattle.x64_meaning.specs.Exp.{Exp, Before, After, W64, Bin}
 use Rattle.x64_meaning.specs.Contract.{Contract}

@@ -1,11 +1,12 @@
 // A build, as far as the lines that are to be written.
 
-ghost use Rattle.std.specs.Prelude.{◌≡◌, ℕ, List, ◌≤◌, ◌<◌, ◌^◌, length, IsTrue, IfOk, IfErr, IfSome};
-ghost use Rattle.std.specs.List.{AllByRecursion};
+ghost use Rattle.std.specs.Prelude.{◌≡◌, ℕ, true, List, ◌≤◌, ◌<◌, ◌^◌, length, IsTrue, IfOk, IfErr, IfSome};
+ghost use Rattle.std.specs.List.{AllByRecursion, list_all};
 ghost use Rattle.vale_outside.specs.Outside.{Rose};
 ghost use Rattle.straight_line.specs.Form.{IsStraight};
 ghost use Rattle.vale_driver.specs.Certificate.{Pair, Proves};
 ghost use Rattle.vale_driver.specs.Ring.{ring_closes};
+ghost use Rattle.vale_driver.specs.Terms.{is_built};
 ghost use Rattle.vale_driver.specs.Build.{condition_hyps, condition_goal};
 ghost use Rattle.vale_driver.specs.Assembly.{joined};
 ghost use Rattle.vale_driver.specs.Phases.{texts, build_of};
@@ -75,7 +76,8 @@ fn certificate_file<S: Store>(
 
 // Whether the steps close the procedure's condition.
 fn closes(alloc: Global, program: &StraightLine, steps: &[Pair]) -> Result<bool, AllocError>
-    requires { length program.now.instructions < 2 ^ 63 }
+    requires few { length program.now.instructions < 2 ^ 63 }
+    requires built { list_all is_built program.now.instructions ≡ true }
     ensures { IfOk result (λ yes. yes ≡ ring_closes (condition_hyps program.now) (condition_goal program.now) steps.now) }
 {
     let sequent = condition(alloc, program)?;

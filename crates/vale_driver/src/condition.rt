@@ -1,15 +1,16 @@
 // The condition of a procedure: the equations of its instructions, over numbered versions of places, and what is to follow.
 
-ghost use Rattle.std.specs.Prelude.{◌≡◌, ◌<◌, ◌+◌, ◌^◌, ◌++◌, pos, length, map, IfOk, OnOk};
+ghost use Rattle.std.specs.Prelude.{◌≡◌, ◌<◌, ◌+◌, ◌^◌, ◌++◌, pos, true, length, map, IfOk, OnOk};
+ghost use Rattle.std.specs.List.{list_all};
 ghost use Rattle.x64_syntax.specs.declared.places.Place.{Place as APlace};
 ghost use Rattle.x64_syntax.specs.declared.places.Place.TheVariants as place;
-ghost use Rattle.term_core.specs.declared.term.BinOp.TheVariants as bin;
+ghost use Rattle.term_core.specs.declared.operator.BinOp.TheVariants as bin;
 ghost use Rattle.term_core.specs.Terms.{tree, trees};
 ghost use Rattle.term_core.specs.Terms as tm;
 ghost use Rattle.x64_meaning.specs.Exp.{Before, After};
 ghost use Rattle.x64_meaning.specs.Table.{source, equations};
 ghost use Rattle.x64_meaning.specs.Condition.{hypothesis, straight_hyps, first_versions, end_versions};
-ghost use Rattle.vale_driver.specs.Terms.{present, term, move_term, sum_term, carry_term, zero_term, sign_term, overflow_term, addition_terms, promise_term};
+ghost use Rattle.vale_driver.specs.Terms.{is_built, changed_bits, present, term, move_term, sum_term, carry_term, zero_term, sign_term, overflow_term, addition_terms, promise_term};
 ghost use Rattle.vale_driver.specs.Build.{condition_hyps, condition_goal};
 
 use crate::versions::Versions;
@@ -167,13 +168,20 @@ impl<'a> Written<'a> {
     fn overflow(&self, alloc: Global, s: &Opr) -> Result<Term, NoMemory>
         ensures { IfOk result (λ t. tree t ≡ overflow_term (present self.now.versions.now) self.now.d s.now) }
     {
-        let flag = self.flag(alloc, FlagName::Of)?;
-        let left = self.changed_from(alloc, self.before(alloc)?)?;
-        let right = self.changed_from(alloc, source(alloc, self.versions, s)?)?;
-        let both = binary(alloc, BinOp::And, left, right)?;
+        let both = self.changed(alloc, s)?;
         let number = unary(alloc, UnOp::Int, both)?;
         let overflows = reaches(alloc, NEGATIVE_FROM, number)?;
+        let flag = self.flag(alloc, FlagName::Of)?;
         binary(alloc, BinOp::Eq, flag, overflows)
+    }
+
+    // The bits in which the register after it differs from both the register before and the source.
+    fn changed(&self, alloc: Global, s: &Opr) -> Result<Term, NoMemory>
+        ensures { IfOk result (λ t. tree t ≡ term (present self.now.versions.now) (changed_bits self.now.d s.now)) }
+    {
+        let left = self.changed_from(alloc, self.before(alloc)?)?;
+        let right = self.changed_from(alloc, source(alloc, self.versions, s)?)?;
+        binary(alloc, BinOp::And, left, right)
     }
 
     // The bits in which a term and the register after it differ.
@@ -204,7 +212,8 @@ fn push_instruction(
     ins: &Ins,
     hyps: &mut Items<Term>,
 ) -> Result<(), NoMemory>
-    requires { (p : APlace) → present versions.now p + 1 < 2 ^ 64 }
+    requires fits { (p : APlace) → present versions.now p + 1 < 2 ^ 64 }
+    requires built { is_built ins.now ≡ true }
     ensures { OnOk result (trees hyps.new ≡ trees hyps.old ++ map (hypothesis (present versions.now)) (equations ins.now)) }
 {
     match ins {
@@ -221,6 +230,7 @@ fn push_instruction(
             let written = Written { d: *d, versions };
             written.push_addition(alloc, s, hyps)
         }
+        _ => Ok(()),
     }
 }
 
@@ -230,7 +240,8 @@ fn push_hypotheses(
     instructions: &[Ins],
     hyps: &mut Items<Term>,
 ) -> Result<Versions, NoMemory>
-    requires { length instructions.now < 2 ^ 63 }
+    requires few { length instructions.now < 2 ^ 63 }
+    requires built { list_all is_built instructions.now ≡ true }
     ensures hyps { OnOk result (trees hyps.new ≡ trees hyps.old ++ straight_hyps instructions.now) }
     ensures last { IfOk result (λ v. present v ≡ end_versions first_versions instructions.now) }
 {
@@ -244,7 +255,8 @@ fn push_hypotheses(
 
 /// The condition of a procedure.
 pub(crate) fn condition(alloc: Global, program: &StraightLine) -> Result<Sequent, NoMemory>
-    requires { length program.now.instructions < 2 ^ 63 }
+    requires few { length program.now.instructions < 2 ^ 63 }
+    requires built { list_all is_built program.now.instructions ≡ true }
     ensures hyps { IfOk result (λ s. trees s.hyps ≡ condition_hyps program.now) }
     ensures goal { IfOk result (λ s. tree s.goal ≡ condition_goal program.now) }
 {

@@ -1,7 +1,7 @@
 // Assembler text in GAS syntax, line by line.
 
 ghost use Rattle.std.specs.Prelude.{◌≡◌, ℕ, List, ◌++◌, codes, decimal, IfOk, OnOk};
-ghost use Rattle.x64_meaning.specs.Table.{word_of};
+ghost use Rattle.term_core.specs.Value.{word_of};
 ghost use Rattle.x64_syntax.specs.declared.items.Item.TheVariants as item;
 ghost use Rattle.x64_syntax.specs.Places.{reg_name};
 ghost use Rattle.vale_driver.specs.Assembly.{ins_text, item_text, text_of, joined};
@@ -75,8 +75,7 @@ fn ins_line(alloc: Global, ins: &Ins) -> Result<Text, NoMemory>
             d,
             s: Opr::Imm(n),
         } => line(alloc, b"\taddq $", Buffer::new().format(*n).as_bytes(), *d),
-        Ins::Mov { s: Opr::M(_), .. } => Text::from_slice(alloc, b""),
-        Ins::Alu { s: Opr::M(_), .. } => Text::from_slice(alloc, b""),
+        _ => Text::from_slice(alloc, b""),
     }
 }
 

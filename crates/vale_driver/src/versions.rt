@@ -1,13 +1,13 @@
 // How often the places were written so far.
 
-ghost use Rattle.std.specs.Prelude.{◌≡◌, ◌+◌, ◌<◌, ◌^◌, ◌∷◌, []};
+ghost use Rattle.std.specs.Prelude.{◌≡◌, ◌+◌, ◌<◌, ◌^◌, ◌∷◌, [], true};
 ghost use Rattle.x64_syntax.specs.declared.places.Place.{Place as APlace};
 ghost use Rattle.x64_syntax.specs.declared.places.Place.TheVariants as place;
 ghost use Rattle.x64_meaning.specs.Table.{writes};
 ghost use Rattle.x64_meaning.specs.Condition.{first_versions, next_versions};
-ghost use Rattle.vale_driver.specs.Terms.{present};
+ghost use Rattle.vale_driver.specs.Terms.{is_built, present};
 
-use x64_syntax::{Ins, Reg};
+use x64_syntax::{AluOp, Ins, Reg};
 
 /// The present version of each place: how often it was written. The instructions so far write all flags or none.
 #[derive(Drop)]
@@ -43,15 +43,21 @@ impl Versions {
 
     /// Goes on to the versions behind an instruction.
     pub(crate) fn pass(&mut self, ins: &Ins)
-        requires { (p : APlace) → present self.old p + 1 < 2 ^ 64 }
+        requires fits { (p : APlace) → present self.old p + 1 < 2 ^ 64 }
+        requires built { is_built ins.now ≡ true }
         ensures { present self.new ≡ next_versions (present self.old) (writes ins.now) }
     {
         match ins {
             Ins::Mov { d, .. } => self.write(*d),
-            Ins::Alu { d, .. } => {
+            Ins::Alu {
+                op: AluOp::Add,
+                d,
+                ..
+            } => {
                 self.write(*d);
                 self.flags += 1;
             }
+            _ => {}
         }
     }
 

@@ -11,56 +11,39 @@ use crate::fault::PartFault;
 use crate::front::{Read, expect};
 use expr_parser::{after, spot_of};
 use vale_syntax::{AbiName, Kind, Lookahead, Mark, SortName, Spot, Token, peek};
-use x64_syntax::Keyword;
+use x64_syntax::{Keyword, TypeWord, type_word_named};
 
-fn sort_word(text: &[u8], spot: Spot) -> Option<SortName>
-    ensures { result ≡ sort_word text.now spot }
+fn sort_word(word: Option<TypeWord>, spot: Spot) -> Option<SortName>
+    ensures { result ≡ sort_word word spot }
 {
-    if text == b"int".as_slice() {
-        return Some(SortName::Int(spot));
-    }
-    if text == b"bool".as_slice() {
-        return Some(SortName::Bool(spot));
-    }
-    if text == b"w64".as_slice() {
-        return Some(SortName::W64(spot));
-    }
-    if text == b"w128".as_slice() {
-        return Some(SortName::W128(spot));
-    }
-    if text == b"arr".as_slice() {
-        Some(SortName::Arr(spot))
-    } else {
-        None
+    match word? {
+        TypeWord::Int => Some(SortName::Int(spot)),
+        TypeWord::Bool => Some(SortName::Bool(spot)),
+        TypeWord::W64 => Some(SortName::W64(spot)),
+        TypeWord::W128 => Some(SortName::W128(spot)),
+        TypeWord::Arr => Some(SortName::Arr(spot)),
+        _ => None,
     }
 }
 
-fn kind_word(text: &[u8], spot: Spot) -> Option<Kind>
-    ensures { result ≡ kind_word text.now spot }
+fn kind_word(word: Option<TypeWord>, spot: Spot) -> Option<Kind>
+    ensures { result ≡ kind_word word spot }
 {
-    if text == b"reg".as_slice() {
-        return Some(Kind::Reg(spot));
-    }
-    if text == b"opr".as_slice() {
-        return Some(Kind::Opr(spot));
-    }
-    if text == b"xmm".as_slice() {
-        Some(Kind::Xmm(spot))
-    } else {
-        None
+    match word? {
+        TypeWord::Reg => Some(Kind::Reg(spot)),
+        TypeWord::Opr => Some(Kind::Opr(spot)),
+        TypeWord::Xmm => Some(Kind::Xmm(spot)),
+        _ => None,
     }
 }
 
-fn abi_word(text: &[u8], spot: Spot) -> Option<AbiName>
-    ensures { result ≡ abi_word text.now spot }
+fn abi_word(word: Option<TypeWord>, spot: Spot) -> Option<AbiName>
+    ensures { result ≡ abi_word word spot }
 {
-    if text == b"sysv".as_slice() {
-        return Some(AbiName::Sysv(spot));
-    }
-    if text == b"win".as_slice() {
-        Some(AbiName::Win(spot))
-    } else {
-        None
+    match word? {
+        TypeWord::Sysv => Some(AbiName::Sysv(spot)),
+        TypeWord::Win => Some(AbiName::Win(spot)),
+        _ => None,
     }
 }
 
@@ -80,7 +63,7 @@ pub(crate) fn sort_at(tokens: &[Token]) -> Option<SortName>
     ensures { result ≡ sort_at tokens.now }
 {
     match peek(tokens) {
-        Lookahead::Name => sort_word(text_of(tokens), spot_of(tokens)),
+        Lookahead::Name => sort_word(type_word_named(text_of(tokens)), spot_of(tokens)),
         _ => None,
     }
 }
@@ -91,7 +74,7 @@ pub(crate) fn kind_at(tokens: &[Token]) -> Option<Kind>
     ensures { result ≡ kind_at tokens.now }
 {
     match peek(tokens) {
-        Lookahead::Name => kind_word(text_of(tokens), spot_of(tokens)),
+        Lookahead::Name => kind_word(type_word_named(text_of(tokens)), spot_of(tokens)),
         _ => None,
     }
 }
@@ -102,7 +85,7 @@ pub(crate) fn abi_at(tokens: &[Token]) -> Option<AbiName>
     ensures { result ≡ abi_at tokens.now }
 {
     match peek(tokens) {
-        Lookahead::Name => abi_word(text_of(tokens), spot_of(tokens)),
+        Lookahead::Name => abi_word(type_word_named(text_of(tokens)), spot_of(tokens)),
         _ => None,
     }
 }

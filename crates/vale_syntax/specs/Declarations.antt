@@ -2,6 +2,9 @@
 use Rattle.std.specs.Prelude.{◌≡◌, ℕ, ◌≤◌, Bool, true, false, List, [], ◌∷◌, drop, codes, Option, Some, None, if◌then◌else◌}
 use Rattle.std.specs.Str.{bytes_eq}
 use Rattle.x64_syntax.specs.declared.keywords.Keyword.TheVariants as word
+use Rattle.x64_syntax.specs.declared.type_words.TypeWord.{TypeWord}
+use Rattle.x64_syntax.specs.declared.type_words.TypeWord.TheVariants as type_word
+use Rattle.x64_syntax.specs.Words.{type_word_of}
 use Rattle.vale_syntax.specs.declared.spot.Spot.{Spot}
 use Rattle.vale_syntax.specs.declared.token.Token.{Token}
 use Rattle.vale_syntax.specs.declared.mark.Mark.TheVariants as mark
@@ -28,29 +31,27 @@ use Rattle.vale_syntax.specs.Lists.{Closed, Separated, Many}
 use Rattle.vale_syntax.specs.Statements.{Expression, sort_at, Block, LBlock, statement_limit}
 
 -- the kind of operands that a word is
-abbrev pub kind_word : List ℕ → Spot → Option Kind
-kind_word text s =
-    if bytes_eq text (codes "reg") then Some (kind.Reg s)
-    else if bytes_eq text (codes "opr") then Some (kind.Opr s)
-    else if bytes_eq text (codes "xmm") then Some (kind.Xmm s)
-    else None
+abbrev pub kind_word : Option TypeWord → Spot → Option Kind
+kind_word (Some type_word.Reg) s = Some (kind.Reg s)
+kind_word (Some type_word.Opr) s = Some (kind.Opr s)
+kind_word (Some type_word.Xmm) s = Some (kind.Xmm s)
+kind_word _ s = None
 
 abbrev pub kind_by : Lookahead → List Token → Option Kind
-kind_by see.Name ts = kind_word (text_of ts) (spot_of ts)
+kind_by see.Name ts = kind_word (type_word_of (text_of ts)) (spot_of ts)
 kind_by _ ts = None
 
 unfoldable pub kind_at : List Token → Option Kind
 kind_at ts = kind_by (peek ts) ts
 
 -- the calling convention that a word is
-abbrev pub abi_word : List ℕ → Spot → Option AbiName
-abi_word text s =
-    if bytes_eq text (codes "sysv") then Some (abi.Sysv s)
-    else if bytes_eq text (codes "win") then Some (abi.Win s)
-    else None
+abbrev pub abi_word : Option TypeWord → Spot → Option AbiName
+abi_word (Some type_word.Sysv) s = Some (abi.Sysv s)
+abi_word (Some type_word.Win) s = Some (abi.Win s)
+abi_word _ s = None
 
 abbrev pub abi_by : Lookahead → List Token → Option AbiName
-abi_by see.Name ts = abi_word (text_of ts) (spot_of ts)
+abi_by see.Name ts = abi_word (type_word_of (text_of ts)) (spot_of ts)
 abi_by _ ts = None
 
 unfoldable pub abi_at : List Token → Option AbiName

@@ -2,6 +2,9 @@
 use Rattle.std.specs.Prelude.{◌≡◌, ℕ, suc, ◌≤◌, max, List, [], drop, codes, Option, Some, None, if◌then◌else◌}
 use Rattle.std.specs.Str.{bytes_eq}
 use Rattle.x64_syntax.specs.declared.keywords.Keyword.TheVariants as word
+use Rattle.x64_syntax.specs.declared.type_words.TypeWord.{TypeWord}
+use Rattle.x64_syntax.specs.declared.type_words.TypeWord.TheVariants as type_word
+use Rattle.x64_syntax.specs.Words.{type_word_of}
 use Rattle.vale_syntax.specs.declared.spot.Spot.{Spot}
 use Rattle.vale_syntax.specs.declared.token.Token.{Token}
 use Rattle.vale_syntax.specs.declared.mark.Mark.TheVariants as mark
@@ -23,17 +26,16 @@ pub record Expression (ts : List Token) (x : Ex) (rest : List Token) : Type 0 wh
   pub spelled : Spells any depth ts x rest
 
 -- the sort that a word is
-abbrev pub sort_word : List ℕ → Spot → Option SortName
-sort_word text s =
-    if bytes_eq text (codes "int") then Some (sort.Int s)
-    else if bytes_eq text (codes "bool") then Some (sort.Bool s)
-    else if bytes_eq text (codes "w64") then Some (sort.W64 s)
-    else if bytes_eq text (codes "w128") then Some (sort.W128 s)
-    else if bytes_eq text (codes "arr") then Some (sort.Arr s)
-    else None
+abbrev pub sort_word : Option TypeWord → Spot → Option SortName
+sort_word (Some type_word.Int) s = Some (sort.Int s)
+sort_word (Some type_word.Bool) s = Some (sort.Bool s)
+sort_word (Some type_word.W64) s = Some (sort.W64 s)
+sort_word (Some type_word.W128) s = Some (sort.W128 s)
+sort_word (Some type_word.Arr) s = Some (sort.Arr s)
+sort_word _ s = None
 
 abbrev pub sort_by : Lookahead → List Token → Option SortName
-sort_by see.Name ts = sort_word (text_of ts) (spot_of ts)
+sort_by see.Name ts = sort_word (type_word_of (text_of ts)) (spot_of ts)
 sort_by _ ts = None
 
 unfoldable pub sort_at : List Token → Option SortName

@@ -5,20 +5,16 @@ use Rattle.std.specs.List.{AllByRecursion}
 use Rattle.std.proofs.lemmas.Bool.{not-true, and_parts, or_parts, false≢true, leb-true}
 use Rattle.x64_syntax.specs.declared.places.Place.{Place}
 use Rattle.x64_syntax.specs.declared.places.Place.TheVariants.{Reg, Xmm, Flag}
-use Rattle.x64_syntax.specs.declared.operands.Opr.{Opr}
-use Rattle.x64_syntax.specs.declared.operands.Opr.TheVariants.{R, Imm, M}
-use Rattle.x64_syntax.specs.declared.instructions.AluOp.TheVariants.{Add}
-use Rattle.x64_syntax.specs.declared.instructions.Ins.{Ins}
-use Rattle.x64_syntax.specs.declared.instructions.Ins.TheVariants.{Mov, Alu}
 use Rattle.x64_syntax.specs.Places.{place_eq}
-use Rattle.x64_syntax.proofs.PlaceLemmas.{place_eq_is, place_eq_same, reg_eq_same}
-use Rattle.term_core.specs.declared.term.Sort.TheVariants as sort
+use Rattle.x64_syntax.proofs.PlaceLemmas.{place_eq_is, place_eq_same}
+use Rattle.term_core.specs.declared.operator.Sort.TheVariants as sort
 use Rattle.term_core.specs.Value.{Val, Whole, whole, truth, cast}
 use Rattle.x64_meaning.specs.State.{State, IsState, read, write, flag_from, flag_number_of}
 use Rattle.x64_meaning.specs.Exp.{Exp, Int, Ite, exp_sort, exp_value, among, knows}
-use Rattle.x64_meaning.specs.Table.{Equation, equations, source, apply, suits, in_order}
+use Rattle.x64_meaning.specs.Table.{Equation, apply, suits, in_order}
 use Rattle.x64_meaning.proofs.Reading.{Storable, read_written, read_other, write-IsState, read-sorted}
-use Rattle.term_core.proofs.Values.{IsOf, sort_eq_is}
+use Rattle.term_core.proofs.Values.{IsOf}
+use Rattle.term_core.proofs.Comparing.{sort_eq_is}
 use Rattle.x64_meaning.proofs.Exps.{exp_value-same, exp_value-sorted}
 
 -- a place that is among some, and one that isn't, are two
@@ -42,8 +38,9 @@ choice_flag true m n h k = ap (λ x. Whole (pos x)) (sym (small_flag m h))
 choice_flag false m n h k = ap (λ x. Whole (pos x)) (sym (small_flag n k))
 
 -- what suits a place can be stored there
-suits_stored : (b a : Place → Val) (m : Val) → ((e : Exp) → IsOf (exp_sort e) (exp_value b a m e)) → (p : Place) (e : Exp) → suits p e ≡ true → Storable p (exp_value b a m e)
+suits_stored : (b a : Place → Val) (m : ℕ → Val) → ((e : Exp) → IsOf (exp_sort e) (exp_value b a m e)) → (p : Place) (e : Exp) → suits p e ≡ true → Storable p (exp_value b a m e)
 suits_stored b a m sorted (Reg r) e h = sym (subst (λ s. cast s (exp_value b a m e) ≡ exp_value b a m e) (sort_eq_is (exp_sort e) sort.W64 h) (sorted e))
+suits_stored b a m sorted (Xmm x) e h = sym (subst (λ s. cast s (exp_value b a m e) ≡ exp_value b a m e) (sort_eq_is (exp_sort e) sort.W128 h) (sorted e))
 suits_stored b a m sorted (Flag f) (Ite c (Int (pos x)) (Int (pos y))) h =
     let both = and_parts (nat_le x 2) (nat_le y 2) h in
     choice_flag (truth (exp_value b a m c)) x y both.0 both.1
@@ -79,7 +76,7 @@ pub among_head : (ps : List Place) (q : Place) → among (q ∷ ps) q ≡ true
 among_head ps q = ap (λ b. b || among ps q) (place_eq_same q)
 
 -- what is read of a place that was written already isn't changed by the rest
-pub apply-done : (before : State) (m : Val) (done : List Place) (es : List Equation) (now : State) → in_order done es ≡ true → (p : Place) → among done p ≡ true → read (apply before m es now) p ≡ read now p
+pub apply-done : (before : State) (m : ℕ → Val) (done : List Place) (es : List Equation) (now : State) → in_order done es ≡ true → (p : Place) → among done p ≡ true → read (apply before m es now) p ≡ read now p
 apply-done before m done [] now h p d = refl
 apply-done before m done (e ∷ es) now h p d =
     let o = order_of done e es h in
@@ -88,14 +85,14 @@ apply-done before m done (e ∷ es) now h p d =
     ∙ read_other now p e.place v (among_apart done p e.place d o.new)
 
 -- what isn't written is as it was
-pub apply-other : (before : State) (m : Val) (es : List Equation) (now : State) (p : Place) → among (places es) p ≡ false → read (apply before m es now) p ≡ read now p
+pub apply-other : (before : State) (m : ℕ → Val) (es : List Equation) (now : State) (p : Place) → among (places es) p ≡ false → read (apply before m es now) p ≡ read now p
 apply-other before m [] now p h = refl
 apply-other before m (e ∷ es) now p h =
     let b = or_parts (place_eq p e.place) (among (places es) p) h in
     let v = exp_value (read before) (read now) m e.right in
     apply-other before m es (write now e.place v) p b.1 ∙ read_other now p e.place v b.0
 
-pub apply-IsState : (before : State) (m : Val) (es : List Equation) (now : State) → IsState now → IsState (apply before m es now)
+pub apply-IsState : (before : State) (m : ℕ → Val) (es : List Equation) (now : State) → IsState now → IsState (apply before m es now)
 apply-IsState before m [] now ok = ok
 apply-IsState before m (e ∷ es) now ok =
     let v = exp_value (read before) (read now) m e.right in
@@ -107,18 +104,18 @@ write-blocks s (Xmm x) v = refl
 write-blocks s (Flag f) v = refl
 
 -- blocks aren't changed
-pub apply-blocks : (before : State) (m : Val) (es : List Equation) (now : State) → (apply before m es now).blocks ≡ now.blocks
+pub apply-blocks : (before : State) (m : ℕ → Val) (es : List Equation) (now : State) → (apply before m es now).blocks ≡ now.blocks
 apply-blocks before m [] now = refl
 apply-blocks before m (e ∷ es) now =
     let v = exp_value (read before) (read now) m e.right in
     apply-blocks before m es (write now e.place v) ∙ write-blocks now e.place v
 
 -- an equation holds between two states
-abbrev pub Equal : (Place → Val) → (Place → Val) → Val → Equation → Type 0
+abbrev pub Equal : (Place → Val) → (Place → Val) → (ℕ → Val) → Equation → Type 0
 Equal b a m e = a e.place ≡ exp_value b a m e.right
 
 -- the equations hold between the state before and the state after
-pub apply-equations : (before : State) (m : Val) → IsState before → IsOf sort.W64 m → (done : List Place) (es : List Equation) (now : State) → IsState now → in_order done es ≡ true → AllByRecursion (Equal (read before) (read (apply before m es now)) m) es
+pub apply-equations : (before : State) (m : ℕ → Val) → IsState before → ((k : ℕ) → IsOf sort.W64 (m k)) → (done : List Place) (es : List Equation) (now : State) → IsState now → in_order done es ≡ true → AllByRecursion (Equal (read before) (read (apply before m es now)) m) es
 apply-equations before m ok sm done [] now okn h = tt
 apply-equations before m ok sm done (e ∷ es) now okn h =
     let o = order_of done e es h in
@@ -135,22 +132,3 @@ apply-equations before m ok sm done (e ∷ es) now okn h =
           ∙ same,
       apply-equations before m ok sm (e.place ∷ done) es now' (write-IsState now e.place v okn) o.rest,
     )
-
--- the equations of every instruction come in order
-operand_known : (s : Opr) → knows [] (source s) ≡ true
-operand_known (R r) = refl
-operand_known (Imm z) = refl
-operand_known (M m) = refl
-
-operand_sort : (s : Opr) → exp_sort (source s) ≡ sort.W64
-operand_sort (R r) = refl
-operand_sort (Imm z) = refl
-operand_sort (M m) = refl
-
-pub equations-in_order : (i : Ins) → in_order [] (equations i) ≡ true
-equations-in_order (Mov d (R r)) = refl
-equations-in_order (Mov d (Imm z)) = refl
-equations-in_order (Mov d (M m)) = refl
-equations-in_order (Alu Add d (R r)) = rw (reg_eq_same d) refl
-equations-in_order (Alu Add d (Imm z)) = rw (reg_eq_same d) refl
-equations-in_order (Alu Add d (M m)) = rw (reg_eq_same d) refl

@@ -1,7 +1,12 @@
 pub mod Reading
 pub mod Exps
 pub mod Apply
+pub mod Ordered
 pub mod Names
 pub mod Straight
-pub mod Forms
+pub mod Numbers
+pub mod Parts
+pub mod Computes
+pub mod Alone
+pub mod Sources
 pub mod Stepping

@@ -1,123 +1,163 @@
 -- What a step of the machine that runs leaves is what the table's equations give.
-use Rattle.std.proofs.Common.{◌≡◌, ℕ, suc, ◌+◌, ◌-◌, ◌%◌, ◌<◌, ◌^◌, ℤ, pos, negsuc, Bool, true, false, cond, length, Option, Some, None, refl, sym, ap, ◌∙◌, arith, mod-eq_of_lt, SFits, w64}
-use Rattle.std.specs.Prelude.{Result, Ok, Err, nat_le, ◌==◌, slice_index, slice_set, bit_and, bit_xor}
-use Rattle.std.specs.Int.{cast_unsigned}
-use Rattle.std.proofs.lemmas.Int.{ints}
-use Rattle.std.specs.Int.Bits.{and_lt}
-use Rattle.std.proofs.Math.Path.{fun_ext}
-use Rattle.std.proofs.Math.Nat.{mod-add-mod, add-mod-mod}
-use Rattle.std.proofs.lemmas.Nat.{xor_lt, mod_below}
-use Rattle.std.proofs.lemmas.List.{get_or-set_same}
+use Rattle.std.proofs.Common.{◌≡◌, ℕ, ◌+◌, ◌%◌, ◌<◌, Bool, true, false, [], ◌∷◌, map, Option, Some, None, refl, sym, ap, ◌∙◌, subst, arith, mod-eq_of_lt, ◌||◌}
+use Rattle.std.specs.Prelude.{Result, Ok, Err}
+use Rattle.std.proofs.lemmas.Nat.{mod_below}
+use Rattle.std.proofs.lemmas.Bool.{false≢true}
 use Rattle.x64_syntax.specs.declared.places.Reg.{Reg as GeneralReg}
+use Rattle.x64_syntax.specs.declared.places.Reg.TheVariants.{Rax, Rdx, Rsp}
+use Rattle.x64_syntax.specs.declared.places.FlagName.{FlagName}
 use Rattle.x64_syntax.specs.declared.places.FlagName.TheVariants.{Cf, Zf, Sf, Of}
+use Rattle.x64_syntax.specs.declared.places.Place.{Place}
+use Rattle.std.proofs.Math.Path.{fun_ext}
+use Rattle.x64_syntax.specs.declared.places.Place.TheVariants.{Reg, Flag}
 use Rattle.x64_syntax.specs.declared.operands.Mem.{Mem}
-use Rattle.x64_syntax.specs.declared.operands.Opr.{Opr}
-use Rattle.x64_syntax.specs.declared.operands.Opr.TheVariants.{R, Imm, M}
 use Rattle.x64_syntax.specs.declared.instructions.AluOp.{AluOp}
-use Rattle.x64_syntax.specs.declared.instructions.AluOp.TheVariants.{Add}
-use Rattle.x64_syntax.specs.declared.instructions.Ins.TheVariants.{Alu}
-use Rattle.x64_syntax.specs.Places.{reg_number, flag_number}
-use Rattle.x64_syntax.proofs.PlaceLemmas.{reg_number_lt}
-use Rattle.term_core.specs.declared.term.Sort.TheVariants as sort
-use Rattle.term_core.specs.Value.{T, Whole, Word, whole, cast}
-use Rattle.x64_meaning.specs.declared.machine.Flag.{Flag as FlagValue}
+use Rattle.x64_syntax.specs.declared.instructions.AluOp.TheVariants as alu
+use Rattle.x64_syntax.specs.declared.instructions.Ins.{Ins}
+use Rattle.x64_syntax.specs.declared.instructions.Ins.TheVariants.{Mov, Store, Lea, Cmov, Push, Pop, Alu, One, Shift, Imul, Mul, Mulx, Carry}
+use Rattle.x64_syntax.specs.Instructions.{carry_flag, index_registers, read_places, is_among, accesses}
+use Rattle.term_core.specs.Value.{T, Word}
 use Rattle.x64_meaning.specs.declared.machine.Obs.{Obs}
 use Rattle.x64_meaning.specs.declared.machine.Fault.{Fault}
-use Rattle.x64_meaning.specs.State.{State, reg, load, flag_from}
-use Rattle.x64_meaning.specs.Table.{word_of, equations, apply}
-use Rattle.x64_meaning.specs.Run.{address, does, with_loaded}
-use Rattle.x64_meaning.specs.Steps.{Steps, flag_if, added, loaded, sourced}
+use Rattle.x64_meaning.specs.State.{State, reg, load}
+use Rattle.x64_meaning.specs.Exp.{Before, After, Loaded, no_words}
+use Rattle.x64_meaning.specs.Table.{source, equations, gets, sets, undefined, lower, upper, alu_equations, product_equations, carry_equations, reads, memory_places}
+use Rattle.x64_meaning.specs.Run.{Outcome, Done, Faulted, No, access, with_access, with_loaded, with_flags, does, after, moved, word_in, first_undefined}
+use Rattle.x64_meaning.specs.Steps.{Acts, Steps, loaded, taken, computed, is_general, defined, set_reg, alu_done, multiplied, wide_product, halves, carried, Fits}
+use Rattle.x64_meaning.proofs.Computes.{alu_leaves, imul_leaves, mul_leaves, mulx_leaves, carry_leaves, mov_leaves}
+use Rattle.x64_meaning.proofs.Alone.{one_leaves, shift_leaves, lea_leaves, cmov_leaves}
+use Rattle.x64_meaning.proofs.Sources.{fill, with_source, faults_alone, ok_is, err_is}
 
--- a constant as a word
-pub word_of_cast : (z : ℤ) → SFits w64 z → cast_unsigned w64 z ≡ word_of z
-word_of_cast (pos n) fits = let lt : n < T = omega (arith, ints) in sym (mod-eq_of_lt lt)
-word_of_cast (negsuc n) fits =
-    let lt : n < T = omega (arith, ints) in
-    let e : T - suc n ≡ T - 1 - n = omega arith in
-    e ∙ ap (λ k. T - 1 - k) (sym (mod-eq_of_lt lt))
+-- an instruction without an access
+alone : (s : State) (i : Ins) (b : ℕ) (seen : Option Obs) (new : State) → access s i ≡ No → after s no_words i ≡ new → ◌≡◌ {A = Result (ℕ × Option Obs) Fault} (Ok (0, None)) (Ok (b, seen)) → Acts (with_access s i (access s i)) s new (Ok seen)
+alone s i b seen new none_there leaves from = subst (λ x. Acts (with_access s i x) s new (Ok seen)) (sym none_there) (ap Ok (sym (ok_is from).1), sym leaves)
 
--- a flag as the table's choice gives it
-abbrev chosen : Bool → FlagValue
-chosen b = flag_from (whole (cond b (Whole (pos 1)) (cast sort.Int (Whole (pos 0)))))
+popped : (s : State) (d : GeneralReg) (b : ℕ) (seen : Option Obs) → Fits s → b < T → (l : Option ℕ) → loaded (reg s Rsp) l ≡ Ok (b, seen) → Acts (with_loaded s (Pop d) (reg s Rsp) 8 l) s (computed (Pop d) s b) (Ok seen)
+popped s d b seen fits lt None h = absurd cc
+popped s d b seen fits lt (Some n) h =
+    let p = ok_is h in
+    let t = set_reg d b s in
+    let same : Word (n % T) ≡ Word b = ap (λ k. Word (k % T)) p.0 ∙ ap Word (mod-eq_of_lt lt) in
+    let put = mov_leaves s (word_in n) d b fits lt same in
+    let rsp = mod-eq_of_lt (mod_below (reg t Rsp + 8) T (omega arith)) in
+    (ap Ok (sym p.1), sym (ap (moved (Pop d)) put ∙ ap (λ k. set_reg Rsp k t) rsp))
 
-chosen_is : chosen ≡ flag_if
-chosen_is = fun_ext by_truth where
-  by_truth : (b : Bool) → chosen b ≡ flag_if b
-  by_truth true = refl
-  by_truth false = refl
+not_popped : (s : State) (d : GeneralReg) (f : Fault) → (l : Option ℕ) → loaded (reg s Rsp) l ≡ Err f → Acts (with_loaded s (Pop d) (reg s Rsp) 8 l) s s (Err f)
+not_popped s d f None h = (sym (ap Err (err_is h)), refl)
+not_popped s d f (Some n) h = absurd cc
 
--- the sum of a and b as the equations give it: the register holds x, which is read as y
-abbrev summed : (Bool → FlagValue) → State → GeneralReg → ℕ → ℕ → ℕ → ℕ → State
-summed F s d a b x y = record s {
-  regs = slice_set s.regs (reg_number d) x;
-  flags = slice_set (slice_set (slice_set (slice_set s.flags (flag_number Cf) (F (nat_le T (a % T + b % T)))) (flag_number Zf) (F (y == 0))) (flag_number Sf) (F (nat_le (2 ^ 63) (y % T))))
-      (flag_number Of) (F (nat_le (2 ^ 63) (bit_and (bit_xor (a % T) (y % T) % T) (bit_xor (b % T) (y % T) % T) % T)));
-}
+-- An instruction that took its word in leaves what it computes from it.
+pub act_does : (i : Ins) (s : State) (b : ℕ) (seen : Option Obs) → Fits s → b < T → is_general i ≡ true → ((m : Mem) (r : GeneralReg) → i ≡ Store m r → ⊥) → ((r : GeneralReg) → i ≡ Push r → ⊥) → taken s i ≡ Ok (b, seen) → Acts (with_access s i (access s i)) s (computed i s b) (Ok seen)
+act_does (Store m r) s b seen fits lt general store push from = absurd (store m r refl)
+act_does (Push r) s b seen fits lt general store push from = absurd (push r refl)
+act_does (Mov d o) s b seen fits lt general store push from =
+    with_source s (Mov d o) o (gets (Reg d) (Loaded 0) ∷ []) (λ b. set_reg d b s) (record { accesses = λ s. refl; stays = λ s. refl; size = refl; equations_are = refl }) (λ m b lt h. mov_leaves s m d b fits lt h) b seen lt from
+act_does (Lea d x) s b seen fits lt general store push from = alone s (Lea d x) b seen (computed (Lea d x) s b) refl (lea_leaves s no_words d fits x) from
+act_does (Cmov c d r) s b seen fits lt general store push from = alone s (Cmov c d r) b seen (computed (Cmov c d r) s b) refl (cmov_leaves s no_words d fits c r) from
+act_does (Pop d) s b seen fits lt general store push from = popped s d b seen fits lt (load s (reg s Rsp) 8) from
+act_does (Alu op d o) s b seen fits lt general store push from =
+    with_source s (Alu op d o) o (alu_equations op (Reg d) (Before (Reg d)) (Loaded 0) (After (Reg d))) (λ b. alu_done op s d b) (record { accesses = λ s. refl; stays = λ s. refl; size = refl; equations_are = alu_filled op }) (λ m b lt h. alu_leaves s m d b fits lt h op) b seen lt from
+  where
+    alu_filled : (op : AluOp) → equations (Alu op d o) ≡ map (fill (source o)) (alu_equations op (Reg d) (Before (Reg d)) (Loaded 0) (After (Reg d)))
+    alu_filled alu.Add = refl
+    alu_filled alu.Adc = refl
+    alu_filled alu.Sub = refl
+    alu_filled alu.Sbb = refl
+    alu_filled alu.Cmp = refl
+    alu_filled alu.And = refl
+    alu_filled alu.Or = refl
+    alu_filled alu.Xor = refl
+act_does (One op d) s b seen fits lt general store push from = alone s (One op d) b seen (computed (One op d) s b) refl (one_leaves s no_words d fits op) from
+act_does (Shift op d n) s b seen fits lt general store push from = alone s (Shift op d n) b seen (computed (Shift op d n) s b) refl (shift_leaves s no_words d fits op n) from
+act_does (Imul d o) s b seen fits lt general store push from =
+    with_source s (Imul d o) o (gets (Reg d) (lower (Before (Reg d)) (Loaded 0)) ∷ sets Cf undefined ∷ sets Zf undefined ∷ sets Sf undefined ∷ sets Of undefined ∷ []) (λ b. multiplied s d b) (record { accesses = λ s. refl; stays = λ s. refl; size = refl; equations_are = refl }) (λ m b lt h. imul_leaves s m d b fits lt h) b seen lt from
+act_does (Mul o) s b seen fits lt general store push from =
+    with_source s (Mul o) o (product_equations (Before (Reg Rax)) (Loaded 0)) (λ b. wide_product s b) (record { accesses = λ s. refl; stays = λ s. refl; size = refl; equations_are = refl }) (λ m b lt h. mul_leaves s m Rax b fits lt h) b seen lt from
+act_does (Mulx x y o) s b seen fits lt general store push from =
+    with_source s (Mulx x y o) o (gets (Reg x) (upper (Before (Reg Rdx)) (Loaded 0)) ∷ gets (Reg y) (lower (Before (Reg Rdx)) (Loaded 0)) ∷ []) (λ b. halves s x y b) (record { accesses = λ s. refl; stays = λ s. refl; size = refl; equations_are = refl }) (λ m b lt h. mulx_leaves s m x b fits lt h y) b seen lt from
+act_does (Carry op d o) s b seen fits lt general store push from =
+    with_source s (Carry op d o) o (carry_equations (carry_flag op) (Reg d) (Before (Reg d)) (Loaded 0)) (λ b. carried (carry_flag op) s d b) (record { accesses = λ s. refl; stays = λ s. refl; size = refl; equations_are = refl }) (λ m b lt h. carry_leaves s m d b fits lt h (carry_flag op)) b seen lt from
+act_does _ s b seen fits lt general store push from = absurd (false≢true general)
 
--- what is put, and what is read then
-abbrev put : ℕ → ℕ → ℕ
-put a b = ((a % T + b % T) % T) % T
+-- It faults where its word can't be read.
+pub act_faults : (i : Ins) (s : State) (f : Fault) → taken s i ≡ Err f → Acts (with_access s i (access s i)) s s (Err f)
+act_faults (Mov d o) s f from = faults_alone s (Mov d o) o (λ s. refl) refl f from
+act_faults (Pop d) s f from = not_popped s d f (load s (reg s Rsp) 8) from
+act_faults (Alu op d o) s f from = faults_alone s (Alu op d o) o (λ s. refl) refl f from
+act_faults (Imul d o) s f from = faults_alone s (Imul d o) o (λ s. refl) refl f from
+act_faults (Mul o) s f from = faults_alone s (Mul o) o (λ s. refl) refl f from
+act_faults (Mulx x y o) s f from = faults_alone s (Mulx x y o) o (λ s. refl) refl f from
+act_faults (Carry op d o) s f from = faults_alone s (Carry op d o) o (λ s. refl) refl f from
+act_faults _ s f from = absurd cc
 
-abbrev got : State → GeneralReg → ℕ → ℕ
-got s d x = slice_index (slice_set s.regs (reg_number d) x) (reg_number d)
-
-by_register : (s : State) (d r : GeneralReg) → apply s (Word 0) (equations (Alu Add d (R r))) s ≡ summed chosen s d (reg s d) (reg s r) (put (reg s d) (reg s r)) (got s d (put (reg s d) (reg s r)))
-by_register s d r = refl
-
-by_constant : (s : State) (d : GeneralReg) (z : ℤ) → apply s (Word 0) (equations (Alu Add d (Imm z))) s ≡ summed chosen s d (reg s d) (word_of z % T) (put (reg s d) (word_of z % T)) (got s d (put (reg s d) (word_of z % T)))
-by_constant s d z = refl
-
-by_memory : (s : State) (d : GeneralReg) (m : Mem) (n : ℕ) → apply s (Word n) (equations (Alu Add d (M m))) s ≡ summed chosen s d (reg s d) n (put (reg s d) n) (got s d (put (reg s d) n))
-by_memory s d m n = refl
-
-same_source : {m n : ℕ} {o q : Option Obs} → ◌≡◌ {A = Result (ℕ × Option Obs) Fault} (Ok (m, o)) (Ok (n, q)) → (m ≡ n) × (o ≡ q)
-same_source {m = m} {o = o} e = (ap (λ r. (part r).0) e, ap (λ r. (part r).1) e) where
-  part : Result (ℕ × Option Obs) Fault → ℕ × Option Obs
+ok_seen : {o q : Option Obs} → ◌≡◌ {A = Result (Option Obs) Fault} (Ok o) (Ok q) → o ≡ q
+ok_seen {o = o} e = ap part e where
+  part : Result (Option Obs) Fault → Option Obs
   part (Ok x) = x
-  part (Err f) = (m, o)
+  part (Err f) = o
 
--- the sum in numbers that fit
-plainly : (s : State) (d : GeneralReg) (b : ℕ) → reg s d < T → b < T → summed flag_if s d (reg s d) b ((reg s d + b) % T) ((reg s d + b) % T) ≡ added s d b
-plainly s d b fits small =
-    let r = (reg s d + b) % T in
-    let below : r < T = mod_below (reg s d + b) T (omega arith) in
-    rw (mod-eq_of_lt fits, mod-eq_of_lt small, mod-eq_of_lt below, mod-eq_of_lt (xor_lt 64 (reg s d) r fits below), mod-eq_of_lt (xor_lt 64 b r small below), mod-eq_of_lt (and_lt 64 (bit_xor (reg s d) r) (bit_xor b r) (xor_lt 64 (reg s d) r fits below) (xor_lt 64 b r small below))) refl
+-- what was done, with what is seen
+pub steps_ok : (x : Outcome) (s new : State) (seen : Option Obs) → Acts x s new (Ok seen) → Steps x s new seen (Ok tt)
+steps_ok (Done t os) s new seen h = (refl, h.1, ok_seen h.0)
+steps_ok (Faulted f) s new seen h = absurd cc
 
-summed_is : (s : State) (d : GeneralReg) (b : ℕ) → length s.regs ≡ 16 → reg s d < T → b < T → summed chosen s d (reg s d) b (put (reg s d) b) (got s d (put (reg s d) b)) ≡ added s d b
-summed_is s d b len fits small =
-    let a = reg s d in
-    let r = (a + b) % T in
-    let below : r < T = mod_below (a + b) T (omega arith) in
-    let puts : put a b ≡ r = rw (mod-eq_of_lt fits, mod-eq_of_lt small, mod-eq_of_lt below) refl in
-    let within : reg_number d < length s.regs = omega (arith, len, reg_number_lt d) in
-    let gets : got s d r ≡ r = get_or-set_same s.regs (reg_number d) r 0 within in
-    ap (λ F. summed F s d a b (put a b) (got s d (put a b))) chosen_is
-    ∙ ap (λ x. summed flag_if s d a b x (got s d x)) puts
-    ∙ ap (λ y. summed flag_if s d a b r y) gets
-    ∙ plainly s d b fits small
+pub steps_err : (x : Outcome) (s new : State) (f : Fault) → Acts x s new (Err f) → Steps x s new None (Err f)
+steps_err (Done t os) s new f h = absurd cc
+steps_err (Faulted g) s new f h = (same h.0, h.1, refl) where
+  same : ◌≡◌ {A = Result (Option Obs) Fault} (Err f) (Err g) → ◌≡◌ {A = Result (Unit {0}) Fault} (Err f) (Err g)
+  same e = ap part e where
+    part : Result (Option Obs) Fault → Result (Unit {0}) Fault
+    part (Ok x) = Err f
+    part (Err g) = Err g
 
--- an addition does what its step leaves
-pub addition_steps : (s new : State) (op : AluOp) (d : GeneralReg) (o : Opr) (b : ℕ) (access : Option Obs) → length s.regs ≡ 16 → reg s d < T → b < T → sourced s o ≡ Ok (b, access) → new ≡ added s d b → Steps (does (Alu op d o) s) s new access (Ok tt)
-addition_steps s new Add d (R r) b access len fits small from e =
-    let p = same_source from in
-    (refl, e ∙ sym (by_register s d r ∙ ap (λ n. summed chosen s d (reg s d) n (put (reg s d) n) (got s d (put (reg s d) n))) p.0 ∙ summed_is s d b len fits small), sym p.1)
-addition_steps s new Add d (Imm z) b access len fits small from e =
-    let p = same_source from in
-    let word : word_of z % T ≡ b = ap (λ n. n % T) p.0 ∙ mod-eq_of_lt small in
-    (refl, e ∙ sym (by_constant s d z ∙ ap (λ n. summed chosen s d (reg s d) n (put (reg s d) n) (got s d (put (reg s d) n))) word ∙ summed_is s d b len fits small), sym p.1)
-addition_steps s new Add d (M m) b access len fits small from e = by_load (load s (address s m) 8) refl from where
-  by_load : (o : Option ℕ) → load s (address s m) 8 ≡ o → loaded (address s m) o ≡ Ok (b, access) → Steps (with_loaded s (Alu Add d (M m)) (address s m) o) s new access (Ok tt)
-  by_load None k h = absurd cc
-  by_load (Some n) k h =
-      let p = same_source h in
-      (refl, e ∙ sym (by_memory s d m n ∙ ap (λ n. summed chosen s d (reg s d) n (put (reg s d) n) (got s d (put (reg s d) n))) p.0 ∙ summed_is s d b len fits small), sym p.1)
+-- no register of an address is a flag
+no_flag : (o : Option Mem) (f : FlagName) → is_among (memory_places o) (Flag f) ≡ false
+no_flag None f = refl
+no_flag (Some m) f = by_index m.index where
+  by_index : (o : Option (GeneralReg × ℕ)) → is_among (map Reg (index_registers o)) (Flag f) ≡ false
+  by_index None = refl
+  by_index (Some i) = refl
 
--- an address in words is that in numbers
-pub addressed : (b x y w v : ℕ) → x ≡ y % T → w ≡ v → ((b + x) % T + w) % T ≡ (b + y + v) % T
-addressed b x y w v e f =
-    mod-add-mod (b + x) T w
-    ∙ ap (λ n. (b + n + w) % T) e
-    ∙ ap (λ n. n % T) (let r : b + y % T + w ≡ (b + w) + y % T = omega arith in r)
-    ∙ add-mod-mod (b + w) y T
-    ∙ ap (λ n. n % T) (let r : (b + w) + y ≡ b + y + w = omega arith in r)
-    ∙ ap (λ n. (b + y + n) % T) f
+or_false : (b : Bool) → (b || false) ≡ b
+or_false true = refl
+or_false false = refl
+
+abbrev flags_named : Ins → FlagName → Bool
+flags_named i f = is_among (read_places i) (Flag f)
+
+abbrev flags_taken : Ins → FlagName → Bool
+flags_taken i f = reads i (Flag f)
+
+-- the flags that an instruction reads by its form are those that its equations take
+flags_read : (i : Ins) → ((p : Place) → is_among (read_places i) p ≡ (reads i p || is_among (memory_places (accesses i)) p)) → flags_named i ≡ flags_taken i
+flags_read i law = fun_ext (λ f. law (Flag f) ∙ ap (λ b. reads i (Flag f) || b) (no_flag (accesses i) f) ∙ or_false (reads i (Flag f)))
+
+module _ (i : Ins) (s : State) (law : (p : Place) → is_among (read_places i) p ≡ (reads i p || is_among (memory_places (accesses i)) p)) where
+  abbrev first : Option FlagName
+  first = first_undefined (λ f. is_among (read_places i) (Flag f)) s
+
+  does_is : does i s ≡ with_flags s i first
+  does_is = ap (λ p. with_flags s i (first_undefined p s)) (sym (flags_read i law))
+
+  -- a flag that is undefined
+  pub step_open : (f : Fault) → defined first ≡ Err f → Steps (does i s) s s None (Err f)
+  step_open f h = subst (λ x. Steps x s s None (Err f)) (sym does_is) (by_flag first h)
+    where
+      by_flag : (o : Option FlagName) → defined o ≡ Err f → Steps (with_flags s i o) s s None (Err f)
+      by_flag None e = absurd cc
+      by_flag (Some g) e = (sym e, refl, refl)
+
+  -- the flags are defined
+  pub step_done : (new : State) (seen : Option Obs) → defined first ≡ Ok tt → Acts (with_access s i (access s i)) s new (Ok seen) → Steps (does i s) s new seen (Ok tt)
+  step_done new seen h acts = subst (λ x. Steps x s new seen (Ok tt)) (sym does_is) (by_flag first h)
+    where
+      by_flag : (o : Option FlagName) → defined o ≡ Ok tt → Steps (with_flags s i o) s new seen (Ok tt)
+      by_flag None e = steps_ok (with_access s i (access s i)) s new seen acts
+      by_flag (Some g) e = absurd cc
+
+  pub step_fault : (new : State) (f : Fault) → defined first ≡ Ok tt → Acts (with_access s i (access s i)) s new (Err f) → Steps (does i s) s new None (Err f)
+  step_fault new f h acts = subst (λ x. Steps x s new None (Err f)) (sym does_is) (by_flag first h)
+    where
+      by_flag : (o : Option FlagName) → defined o ≡ Ok tt → Steps (with_flags s i o) s new None (Err f)
+      by_flag None e = steps_err (with_access s i (access s i)) s new f acts
+      by_flag (Some g) e = absurd cc

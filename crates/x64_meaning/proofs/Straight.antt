@@ -14,26 +14,28 @@ use Rattle.x64_syntax.specs.Places.{place_eq}
 use Rattle.x64_syntax.proofs.PlaceLemmas.{place_eq_is}
 use Rattle.x64_syntax.specs.declared.operands.Mem.{Mem}
 use Rattle.x64_syntax.specs.declared.instructions.Ins.{Ins}
+use Rattle.x64_syntax.specs.declared.instructions.Ins.TheVariants.{Push, Pop}
+use Rattle.x64_syntax.specs.Instructions.{or_else, loads_from, stores_to, accesses, halves_differ}
 use Rattle.x64_syntax.specs.declared.items.Item.{Item}
 use Rattle.x64_syntax.specs.declared.items.Item.TheVariants as item
-use Rattle.term_core.specs.declared.term.Sort.{Sort}
-use Rattle.term_core.specs.Terms.{W64}
+use Rattle.term_core.specs.declared.operator.Sort.{Sort}
 use Rattle.term_core.specs.Value.{Val, Word, Truth, cast, val_eq, Assignment, value, Holds, True}
 use Rattle.x64_meaning.specs.State.{State, IsState, place_sort, read, reg}
-use Rattle.x64_meaning.specs.Exp.{Exp, exp_value, exp_term, among}
-use Rattle.x64_meaning.specs.Table.{Equation, equations, writes, reads, loads_from, in_order}
-use Rattle.x64_meaning.specs.Run.{after, does, Done, Way, start, stepped, Ended, run, act, after_does}
+use Rattle.x64_meaning.specs.Exp.{Exp, no_words, exp_value, exp_term, among}
+use Rattle.x64_meaning.specs.Table.{Equation, equations, writes, reads, apply, in_order}
+use Rattle.x64_meaning.specs.Run.{access, operand_access, moved, first_undefined, with_access, with_flags, does, Done, Way, start, stepped, Ended, run, act, after_does}
 use Rattle.x64_meaning.specs.Contract.{Contract, Worth, Post, Frame, Meets, SameRuns}
-use Rattle.x64_meaning.specs.Condition.{Versions, version, version_name, next_versions, hypothesis, hypotheses, end_versions, first_versions, straight_hyps, straight_goal, is_plain, unwritten, straight_items, StraightFits, Names, IsNamed}
+use Rattle.x64_meaning.specs.Condition.{no_terms, no_functions, uses_stack, Versions, version, version_name, next_versions, hypothesis, hypotheses, end_versions, first_versions, straight_hyps, straight_goal, is_plain, unwritten, straight_items, StraightFits, Names, IsNamed}
 use Rattle.term_core.proofs.Values.{val_eq_same}
 use Rattle.x64_meaning.proofs.Reading.{read-sorted}
 use Rattle.x64_meaning.proofs.Exps.{exp_term-value, exp_value-same, exp_value-all}
-use Rattle.x64_meaning.proofs.Apply.{apply-other, apply-IsState, apply-blocks, apply-equations, equations-in_order, Equal, order_of, places, among_head, among_tail}
+use Rattle.x64_meaning.proofs.Apply.{apply-other, apply-IsState, apply-blocks, apply-equations, Equal, order_of, places, among_head, among_tail}
+use Rattle.x64_meaning.proofs.Ordered.{equations-in_order}
 use Rattle.x64_meaning.proofs.Names.{place_in, version_in, place_in-version_name, version_in-version_name}
 
 -- the state after an instruction that loads nothing
 abbrev next : State → Ins → State
-next s i = after s 0 i
+next s i = apply s no_words (equations i) s
 
 -- the state after straight code
 abbrev pub end_of : State → List Ins → State
@@ -41,7 +43,7 @@ end_of s [] = s
 end_of s (i ∷ is) = end_of (next s i) is
 
 next-IsState : (s : State) (i : Ins) → IsState s → IsState (next s i)
-next-IsState s i ok = apply-IsState s (Word 0) (equations i) s ok
+next-IsState s i ok = apply-IsState s no_words (equations i) s ok
 
 -- what a place holds at the version that comes so many writes later
 value_at : List Ins → State → Place → ℕ → Val
@@ -68,28 +70,28 @@ value_at-sorted (i ∷ is) s p (suc k) ok =
 
 -- the assignment gives the versions the values of a run of the code
 record Follows (a : Assignment) (v : Versions) (is : List Ins) (s : State) : Type 0 where
-  names : (p : Place) (j : ℕ) → j ≤ length is → value a (version p (v p + j)) ≡ value_at is s p j
+  names : (p : Place) (j : ℕ) → j ≤ length is → value no_functions a (version p (v p + j)) ≡ value_at is s p j
 
 follows-next : (a : Assignment) (v : Versions) (i : Ins) (is : List Ins) (s : State) → Follows a v (i ∷ is) s → Follows a (next_versions v (writes i)) is (next s i)
 unfolding value_at
 follows-next a v i is s f = record { names = λ p j le. either p j le (among (writes i) p) refl }
   where
-    either : (p : Place) (j : ℕ) → j ≤ length is → (b : Bool) → among (writes i) p ≡ b → value a (version p (cond b (v p + 1) (v p) + j)) ≡ value_at is (next s i) p j
+    either : (p : Place) (j : ℕ) → j ≤ length is → (b : Bool) → among (writes i) p ≡ b → value no_functions a (version p (cond b (v p + 1) (v p) + j)) ≡ value_at is (next s i) p j
     either p j le true w =
         let e : v p + 1 + j ≡ v p + suc j = omega arith in
-        ap (λ n. value a (version p n)) e ∙ f.names p (suc j) (omega arith) ∙ ap (λ b. cond b (value_at is (next s i) p j) (value_at is (next s i) p (suc j))) w
+        ap (λ n. value no_functions a (version p n)) e ∙ f.names p (suc j) (omega arith) ∙ ap (λ b. cond b (value_at is (next s i) p j) (value_at is (next s i) p (suc j))) w
     either p zero le false w =
-        f.names p 0 (omega arith) ∙ sym (apply-other s (Word 0) (equations i) s p w) ∙ sym (value_at-zero is (next s i) p)
+        f.names p 0 (omega arith) ∙ sym (apply-other s no_words (equations i) s p w) ∙ sym (value_at-zero is (next s i) p)
     either p (suc j) le false w =
         f.names p (suc j) (omega arith) ∙ ap (λ b. cond b (value_at is (next s i) p j) (value_at is (next s i) p (suc j))) w
 
 -- the present versions and the next ones
-follows-now : (a : Assignment) (v : Versions) (is : List Ins) (s : State) → Follows a v is s → (p : Place) → value a (version p (v p)) ≡ read s p
+follows-now : (a : Assignment) (v : Versions) (is : List Ins) (s : State) → Follows a v is s → (p : Place) → value no_functions a (version p (v p)) ≡ read s p
 follows-now a v is s f p =
     let e : v p ≡ v p + 0 = omega arith in
-    ap (λ n. value a (version p n)) e ∙ f.names p 0 (omega arith) ∙ value_at-zero is s p
+    ap (λ n. value no_functions a (version p n)) e ∙ f.names p 0 (omega arith) ∙ value_at-zero is s p
 
-follows-written : (a : Assignment) (v : Versions) (i : Ins) (is : List Ins) (s : State) → Follows a v (i ∷ is) s → (p : Place) → among (writes i) p ≡ true → value a (version p (v p + 1)) ≡ read (next s i) p
+follows-written : (a : Assignment) (v : Versions) (i : Ins) (is : List Ins) (s : State) → Follows a v (i ∷ is) s → (p : Place) → among (writes i) p ≡ true → value no_functions a (version p (v p + 1)) ≡ read (next s i) p
 unfolding value_at
 follows-written a v i is s f p w =
     f.names p 1 (omega arith) ∙ ap (λ b. cond b (value_at is (next s i) p 0) (value_at is (next s i) p 1)) w ∙ value_at-zero is (next s i) p
@@ -98,40 +100,50 @@ equal_holds : (v w : Val) → v ≡ w → Truth (val_eq v w) ≡ Truth true
 equal_holds v w h = ap Truth (ap (val_eq v) (sym h) ∙ val_eq_same v)
 
 -- the equations of one instruction hold under an assignment that follows a run
-equations_hold : (a : Assignment) (v : Versions) (s t : State) → ((p : Place) → value a (version p (v p)) ≡ read s p) → (done : List Place) (es : List Equation) → in_order done es ≡ true → ((p : Place) → among done p ≡ true → value a (version p (v p + 1)) ≡ read t p) → ((p : Place) → among (places es) p ≡ true → value a (version p (v p + 1)) ≡ read t p) → AllByRecursion (Equal (read s) (read t) (Word 0)) es → AllByRecursion (Holds a) (map (hypothesis v) es)
+equations_hold : (a : Assignment) (v : Versions) (s t : State) → ((p : Place) → value no_functions a (version p (v p)) ≡ read s p) → (done : List Place) (es : List Equation) → in_order done es ≡ true → ((p : Place) → among done p ≡ true → value no_functions a (version p (v p + 1)) ≡ read t p) → ((p : Place) → among (places es) p ≡ true → value no_functions a (version p (v p + 1)) ≡ read t p) → AllByRecursion (Equal (read s) (read t) no_words) es → AllByRecursion (Holds no_functions a) (map (hypothesis v) es)
 equations_hold a v s t now done [] h in_done in_es eq = tt
 equations_hold a v s t now done (e ∷ es) h in_done in_es eq =
     let o = order_of done e es h in
-    let term = exp_term-value (λ p. version p (v p)) (λ p. version p (v p + 1)) (W64 0) (λ p. refl) (λ p. refl) refl a e.right in
-    let same = exp_value-same (λ p. value a (version p (v p))) (read s) (λ p. value a (version p (v p + 1))) (read t) (Word 0) done now in_done e.right o.taken in
-    let right : value a (exp_term (λ p. version p (v p)) (λ p. version p (v p + 1)) (W64 0) e.right) ≡ exp_value (read s) (read t) (Word 0) e.right = term ∙ same in (
+    let term = exp_term-value (λ p. version p (v p)) (λ p. version p (v p + 1)) no_terms (λ p. refl) (λ p. refl) (λ k. refl) no_functions a e.right in
+    let same = exp_value-same (λ p. value no_functions a (version p (v p))) (read s) (λ p. value no_functions a (version p (v p + 1))) (read t) no_words done now in_done e.right o.taken in
+    let right : value no_functions a (exp_term (λ p. version p (v p)) (λ p. version p (v p + 1)) no_terms e.right) ≡ exp_value (read s) (read t) no_words e.right = term ∙ same in (
       equal_holds _ _ (in_es e.place (among_head (places es) e.place) ∙ eq.0 ∙ sym right),
       equations_hold a v s t now (e.place ∷ done) es o.rest (either e.place done in_done (in_es e.place (among_head (places es) e.place))) (λ p d. in_es p (among_tail (places es) p e.place d)) eq.1,
     )
   where
-    either : (q : Place) (ps : List Place) → ((p : Place) → among ps p ≡ true → value a (version p (v p + 1)) ≡ read t p) → value a (version q (v q + 1)) ≡ read t q → (p : Place) → among (q ∷ ps) p ≡ true → value a (version p (v p + 1)) ≡ read t p
+    either : (q : Place) (ps : List Place) → ((p : Place) → among ps p ≡ true → value no_functions a (version p (v p + 1)) ≡ read t p) → value no_functions a (version q (v q + 1)) ≡ read t q → (p : Place) → among (q ∷ ps) p ≡ true → value no_functions a (version p (v p + 1)) ≡ read t p
     either q ps rest here p d = by_test (place_eq p q) refl d
       where
-        by_test : (b : Bool) → place_eq p q ≡ b → (b || among ps p) ≡ true → value a (version p (v p + 1)) ≡ read t p
-        by_test true e d = subst (λ r. value a (version r (v r + 1)) ≡ read t r) (sym (place_eq_is p q e)) here
+        by_test : (b : Bool) → place_eq p q ≡ b → (b || among ps p) ≡ true → value no_functions a (version p (v p + 1)) ≡ read t p
+        by_test true e d = subst (λ r. value no_functions a (version r (v r + 1)) ≡ read t r) (sym (place_eq_is p q e)) here
         by_test false e d = rest p d
 
 all_append : {A : Type 0} (P : A → Type 0) (xs ys : List A) → AllByRecursion P xs → AllByRecursion P ys → AllByRecursion P (xs ++ ys)
 all_append P [] ys h k = k
 all_append P (x ∷ xs) ys h k = (h.0, all_append P xs ys h.1 k)
 
+plain_halves : (i : Ins) → is_plain i ≡ true → halves_differ i ≡ true
+plain_halves i h =
+    let p4 = and_parts _ _ h in
+    let p3 = and_parts _ _ p4.0 in
+    let p2 = and_parts _ _ p3.0 in
+    let p1 = and_parts _ _ p2.0 in
+    (and_parts (halves_differ i) _ p1.0).0
+
 -- all equations hold under it
-hypotheses_hold : (a : Assignment) (v : Versions) (is : List Ins) (s : State) → IsState s → Follows a v is s → AllByRecursion (Holds a) (hypotheses v is)
-hypotheses_hold a v [] s ok f = tt
-hypotheses_hold a v (i ∷ is) s ok f =
-    all_append (Holds a) (map (hypothesis v) (equations i)) (hypotheses (next_versions v (writes i)) is)
-    (equations_hold a v s (next s i) (follows-now a v (i ∷ is) s f) [] (equations i) (equations-in_order i)
+hypotheses_hold : (a : Assignment) (v : Versions) (is : List Ins) (s : State) → IsState s → list_all is_plain is ≡ true → Follows a v is s → AllByRecursion (Holds no_functions a) (hypotheses v is)
+hypotheses_hold a v [] s ok plain f = tt
+hypotheses_hold a v (i ∷ is) s ok plain f =
+    let p = and_parts (is_plain i) (list_all is_plain is) plain in
+    let ordered = equations-in_order i (plain_halves i p.0) in
+    all_append (Holds no_functions a) (map (hypothesis v) (equations i)) (hypotheses (next_versions v (writes i)) is)
+    (equations_hold a v s (next s i) (follows-now a v (i ∷ is) s f) [] (equations i) ordered
     (λ p d. absurd (false≢true d)) (follows-written a v i is s f)
-    (apply-equations s (Word 0) ok refl [] (equations i) s ok (equations-in_order i)))
-    (hypotheses_hold a (next_versions v (writes i)) is (next s i) (next-IsState s i ok) (follows-next a v i is s f))
+    (apply-equations s no_words ok (λ k. refl) [] (equations i) s ok ordered))
+    (hypotheses_hold a (next_versions v (writes i)) is (next s i) (next-IsState s i ok) p.1 (follows-next a v i is s f))
 
 -- it names the end
-follows_end : (a : Assignment) (v : Versions) (is : List Ins) (s : State) → Follows a v is s → (p : Place) → value a (version p (end_versions v is p)) ≡ read (end_of s is) p
+follows_end : (a : Assignment) (v : Versions) (is : List Ins) (s : State) → Follows a v is s → (p : Place) → value no_functions a (version p (end_versions v is p)) ≡ read (end_of s is) p
 follows_end a v [] s f p = follows-now a v [] s f p
 follows_end a v (i ∷ is) s f p = follows_end a (next_versions v (writes i)) is (next s i) (follows-next a v i is s f) p
 
@@ -143,24 +155,24 @@ assignment-follows : (is : List Ins) (s : State) → IsState s → length is < 2
 unfolding assignment
 assignment-follows is s ok small = record { names = λ p j le. name p j le }
   where
-    name : (p : Place) (j : ℕ) → j ≤ length is → value (assignment is s) (version p (first_versions p + j)) ≡ value_at is s p j
+    name : (p : Place) (j : ℕ) → j ≤ length is → value no_functions (assignment is s) (version p (first_versions p + j)) ≡ value_at is s p j
     name p j le =
         let e : first_versions p + j ≡ j = omega arith in
-        ap (λ n. value (assignment is s) (version p n)) e
+        ap (λ n. value no_functions (assignment is s) (version p n)) e
         ∙ ap (λ q. cast (place_sort p) (value_at is s q (version_in (version_name p j)))) (place_in-version_name p j)
         ∙ ap (λ k. cast (place_sort p) (value_at is s p k)) (version_in-version_name p j (omega arith))
         ∙ value_at-sorted is s p j ok
 
 -- What follows from the equations is true of a run.
-goal_true : (is : List Ins) (e : Exp) (s : State) → IsState s → length is < 2 ^ 64 → True (straight_hyps is) (straight_goal is e) → Worth (read s) (read (end_of s is)) e
-goal_true is e s ok small h =
+goal_true : (is : List Ins) (e : Exp) (s : State) → IsState s → list_all is_plain is ≡ true → length is < 2 ^ 64 → True no_functions (straight_hyps is) (straight_goal is e) → Worth (read s) (read (end_of s is)) e
+goal_true is e s ok plain small h =
     let a = assignment is s in
     let f = assignment-follows is s ok small in
-    let first : (p : Place) → value a (version p 0) ≡ read s p = follows-now a first_versions is s f in
-    let last : (p : Place) → value a (version p (end_versions first_versions is p)) ≡ read (end_of s is) p = follows_end a first_versions is s f in
-    let term = exp_term-value (λ p. version p 0) (λ p. version p (end_versions first_versions is p)) (W64 0) (λ p. refl) (λ p. refl) refl a e in
-    let holds = h a (hypotheses_hold a first_versions is s ok f) in
-    sym (exp_value-all _ _ _ _ (Word 0) first last e) ∙ sym term ∙ holds
+    let first : (p : Place) → value no_functions a (version p 0) ≡ read s p = follows-now a first_versions is s f in
+    let last : (p : Place) → value no_functions a (version p (end_versions first_versions is p)) ≡ read (end_of s is) p = follows_end a first_versions is s f in
+    let term = exp_term-value (λ p. version p 0) (λ p. version p (end_versions first_versions is p)) no_terms (λ p. refl) (λ p. refl) (λ k. refl) no_functions a e in
+    let holds = h a (hypotheses_hold a first_versions is s ok plain f) in
+    sym (exp_value-all _ _ _ _ no_words first last e) ∙ sym term ∙ holds
 
 -- these items stand in the list from a position on
 abbrev HasAt : List Item → ℕ → List Item → Type 0
@@ -178,22 +190,39 @@ has_all (i ∷ is) front =
     (here, subst (λ m. HasAt (front ++ i ∷ is) m is) n rest')
 
 -- what a plain instruction does
-plain_loads : (o : Option Mem) → is_none o ≡ true → o ≡ None
-plain_loads None h = refl
-plain_loads (Some m) h = absurd (false≢true h)
+no_access : (o p : Option Mem) → is_none (or_else o p) ≡ true → (o ≡ None) × (p ≡ None)
+no_access None None h = (refl, refl)
+no_access None (Some m) h = absurd (false≢true h)
+no_access (Some m) p h = absurd (false≢true h)
 
+operand_alone : (s : State) (i : Ins) → uses_stack i ≡ false → access s i ≡ operand_access s i (loads_from i) (stores_to i)
+operand_alone s (Push r) h = absurd (false≢true (sym h))
+operand_alone s (Pop d) h = absurd (false≢true (sym h))
+operand_alone s _ h = refl
+
+not_moved : (i : Ins) (s : State) → uses_stack i ≡ false → moved i s ≡ s
+not_moved (Push r) s h = absurd (false≢true (sym h))
+not_moved (Pop d) s h = absurd (false≢true (sym h))
+not_moved _ s h = refl
+
+-- no flag is read that is undefined
 plain_does : (i : Ins) (s : State) → is_plain i ≡ true → does i s ≡ Done (next s i) []
 plain_does i s h =
     let p4 = and_parts _ _ h in
     let p3 = and_parts _ _ p4.0 in
     let p2 = and_parts _ _ p3.0 in
     let p1 = and_parts _ _ p2.0 in
+    let p0 = and_parts _ _ p1.0 in
+    let stack = not-true (uses_stack i) (and_parts (is_none (accesses i)) _ p0.1).1 in
+    let none = no_access (loads_from i) (stores_to i) (and_parts (is_none (accesses i)) _ p0.1).0 in
     let cf : reads i (Flag Cf) ≡ false = not-true _ p1.1 in
     let zf : reads i (Flag Zf) ≡ false = not-true _ p2.1 in
     let sf : reads i (Flag Sf) ≡ false = not-true _ p3.1 in
     let of : reads i (Flag Of) ≡ false = not-true _ p4.1 in
-    let none : loads_from i ≡ None = plain_loads _ p1.0 in
-    rw (cf, zf, sf, of, none) refl
+    let flags : first_undefined (λ f. reads i (Flag f)) s ≡ None = rw (cf, zf, sf, of) refl in
+    ap (with_flags s i) flags
+    ∙ ap (with_access s i) (operand_alone s i stack ∙ ap (λ o. operand_access s i o (stores_to i)) none.0 ∙ ap (operand_access s i None) none.1)
+    ∙ ap (λ t. Done t []) (not_moved i (next s i) stack)
 
 -- straight code runs to its end
 run_straight : (items : List Item) (is : List Ins) (at : ℕ) (w : Way) → list_all is_plain is ≡ true → HasAt items at (map item.Ins is ++ item.Ret ∷ []) → (n : ℕ) × (w' : Way) × (run items n at w ≡ Ended w') × (w'.state ≡ end_of w.state is)
@@ -211,18 +240,18 @@ unwritten_same : (is : List Ins) (s : State) (p : Place) → unwritten is p ≡ 
 unwritten_same [] s p h = refl
 unwritten_same (i ∷ is) s p h =
     let b = and_parts (not (among (writes i) p)) (unwritten is p) h in
-    unwritten_same is (next s i) p b.1 ∙ apply-other s (Word 0) (equations i) s p (not-true _ b.0)
+    unwritten_same is (next s i) p b.1 ∙ apply-other s no_words (equations i) s p (not-true _ b.0)
 
 blocks_same : (is : List Ins) (s : State) → (end_of s is).blocks ≡ s.blocks
 blocks_same [] s = refl
-blocks_same (i ∷ is) s = blocks_same is (next s i) ∙ apply-blocks s (Word 0) (equations i) s
+blocks_same (i ∷ is) s = blocks_same is (next s i) ∙ apply-blocks s no_words (equations i) s
 
 word_same : (m n : ℕ) → Word m ≡ Word n → m ≡ n
 word_same m n h = cc
 
-promises_hold : (es : List Exp) (is : List Ins) (s : State) → IsState s → length is < 2 ^ 64 → AllByRecursion (λ e. True (straight_hyps is) (straight_goal is e)) es → AllByRecursion (Worth (read s) (read (end_of s is))) es
-promises_hold [] is s ok small h = tt
-promises_hold (e ∷ es) is s ok small h = (goal_true is e s ok small h.0, promises_hold es is s ok small h.1)
+promises_hold : (es : List Exp) (is : List Ins) (s : State) → IsState s → list_all is_plain is ≡ true → length is < 2 ^ 64 → AllByRecursion (λ e. True no_functions (straight_hyps is) (straight_goal is e)) es → AllByRecursion (Worth (read s) (read (end_of s is))) es
+promises_hold [] is s ok plain small h = tt
+promises_hold (e ∷ es) is s ok plain small h = (goal_true is e s ok plain small h.0, promises_hold es is s ok plain small h.1)
 
 pub straight_named : (name : List ℕ) (is : List Ins) → list_all is_plain is ≡ true → length is < 2 ^ 64 → IsNamed is (straight_items name is) 0
 straight_named name is plain small s ok =
@@ -231,7 +260,7 @@ straight_named name is plain small s ok =
     let f = assignment-follows is s ok small in
     let names : Names is s (end_of s is) = record {
       assignment = assignment is s;
-      holds = hypotheses_hold (assignment is s) first_versions is s ok f;
+      holds = hypotheses_hold (assignment is s) first_versions is s ok plain f;
       first = follows-now (assignment is s) first_versions is s f;
       last = follows_end (assignment is s) first_versions is s f;
     } in
@@ -246,7 +275,7 @@ straight_meets name is c fits s ok pre =
     let r = run_straight items is 1 w0 fits.plain has in
     let same : r.1.state ≡ end_of s is = r.3 in
     let entry : run items (suc r.0) 0 (start s) ≡ run items r.0 1 w0 = refl in
-    let holds = promises_hold c.ensures_ is s ok fits.short fits.proved in
+    let holds = promises_hold c.ensures_ is s ok fits.plain fits.short fits.proved in
     let others : (p : Place) → c.modifies p ≡ false → read (end_of s is) p ≡ read s p = λ p m. unwritten_same is s p (fits.declared p m) in
     let rsp : reg (end_of s is) Rsp ≡ reg s Rsp = word_same _ _ (others (Reg Rsp) fits.rsp) in
     let post : Post c s (end_of s is) = record { holds = holds; rsp = rsp } in

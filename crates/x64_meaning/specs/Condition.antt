@@ -1,22 +1,24 @@
 -- The hypotheses that straight code gives, and what is to follow from them.
-use Rattle.std.specs.Prelude.{◌≡◌, ℕ, ◌+◌, ◌<◌, ◌^◌, Bool, true, false, not, ◌&&◌, List, [], ◌∷◌, ◌++◌, map, decimal, length, is_none, if◌then◌else◌}
+use Rattle.std.specs.Prelude.{◌≡◌, ℕ, pos, ◌+◌, ◌<◌, ◌^◌, Bool, true, false, not, ◌&&◌, List, [], ◌∷◌, ◌++◌, map, decimal, length, is_none, if◌then◌else◌}
 use Rattle.std.specs.List.{list_all, AllByRecursion}
 use Rattle.x64_syntax.specs.declared.places.Reg.TheVariants.{Rsp}
 use Rattle.x64_syntax.specs.declared.places.FlagName.TheVariants.{Cf, Zf, Sf, Of}
 use Rattle.x64_syntax.specs.declared.places.Place.{Place}
 use Rattle.x64_syntax.specs.declared.places.Place.TheVariants.{Reg, Flag}
 use Rattle.x64_syntax.specs.declared.instructions.Ins.{Ins}
+use Rattle.x64_syntax.specs.declared.instructions.Ins.TheVariants.{Push, Pop}
+use Rattle.x64_syntax.specs.Instructions.{accesses, halves_differ}
 use Rattle.x64_syntax.specs.declared.items.Item.{Item}
 use Rattle.x64_syntax.specs.declared.items.Item.TheVariants as item
 use Rattle.x64_syntax.specs.Places.{place_name}
-use Rattle.term_core.specs.declared.term.BinOp.TheVariants as bin
+use Rattle.term_core.specs.declared.operator.BinOp.TheVariants as bin
 use Rattle.term_core.specs.Terms.{Tm, Name, Bin, W64}
-use Rattle.term_core.specs.Value.{True, Assignment, Holds, value}
+use Rattle.term_core.specs.Value.{Whole, Functions, True, Assignment, Holds, value}
 use Rattle.x64_meaning.specs.Contract.{Contract}
 use Rattle.x64_meaning.specs.State.{State, IsState, place_sort, read}
 use Rattle.x64_meaning.specs.Run.{Way, start, Ended, run}
 use Rattle.x64_meaning.specs.Exp.{Exp, exp_term, among}
-use Rattle.x64_meaning.specs.Table.{Equation, equations, writes, reads, loads_from}
+use Rattle.x64_meaning.specs.Table.{Equation, equations, writes, reads}
 
 -- which version of each place is present
 abbrev pub Versions : Type 0
@@ -33,11 +35,19 @@ version p k = Name (version_name p k) (place_sort p)
 abbrev pub next_versions : Versions → List Place → Versions
 next_versions v places p = if among places p then v p + 1 else v p
 
+-- where nothing is loaded
+abbrev pub no_terms : ℕ → Tm
+no_terms k = W64 0
+
+-- what functions give where there are none
+abbrev pub no_functions : Functions
+no_functions k vs = Whole (pos 0)
+
 -- an equation of an instruction, over the present versions and the next ones
 abbrev pub hypothesis : Versions → Equation → Tm
 hypothesis v e =
     Bin bin.Eq (version e.place (v e.place + 1))
-    (exp_term (λ p. version p (v p)) (λ p. version p (v p + 1)) (W64 0) e.right)
+    (exp_term (λ p. version p (v p)) (λ p. version p (v p + 1)) no_terms e.right)
 
 abbrev pub hypotheses : Versions → List Ins → List Tm
 hypotheses v [] = []
@@ -56,12 +66,17 @@ straight_hyps is = hypotheses first_versions is
 
 abbrev pub straight_goal : List Ins → Exp → Tm
 straight_goal is e =
-    exp_term (λ p. version p 0) (λ p. version p (end_versions first_versions is p)) (W64 0) e
+    exp_term (λ p. version p 0) (λ p. version p (end_versions first_versions is p)) no_terms e
 
--- an instruction that neither loads nor reads a flag
+abbrev pub uses_stack : Ins → Bool
+uses_stack (Push r) = true
+uses_stack (Pop d) = true
+uses_stack i = false
+
+-- an instruction of the machine that neither loads nor stores nor reads a flag
 abbrev pub is_plain : Ins → Bool
 is_plain i =
-    is_none (loads_from i)
+    halves_differ i && (is_none (accesses i) && not (uses_stack i))
     && not (reads i (Flag Cf)) && not (reads i (Flag Zf)) && not (reads i (Flag Sf)) && not (reads i (Flag Of))
 
 -- no instruction of straight code writes the place
@@ -79,16 +94,16 @@ pub record StraightFits (is : List Ins) (c : Contract) : Type 0 where
   pub short : length is < 2 ^ 64
   pub declared : (p : Place) → c.modifies p ≡ false → unwritten is p ≡ true
   pub rsp : c.modifies (Reg Rsp) ≡ false
-  pub proved : AllByRecursion (λ e. True (straight_hyps is) (straight_goal is e)) c.ensures_
+  pub proved : AllByRecursion (λ e. True no_functions (straight_hyps is) (straight_goal is e)) c.ensures_
 
 -- An assignment makes all equations of straight code true, and gives the first versions of places what they hold in the
 -- one state, and the last versions what they hold in the other.
 pub record Names (is : List Ins) (s t : State) : Type 0 where
   pub assignment : Assignment
-  pub holds : AllByRecursion (Holds assignment) (straight_hyps is)
-  pub first : (p : Place) → value assignment (version p 0) ≡ read s p
-  pub last : (p : Place) → value assignment (version p (end_versions first_versions is p)) ≡ read t p
+  pub holds : AllByRecursion (Holds no_functions assignment) (straight_hyps is)
+  pub first : (p : Place) → value no_functions assignment (version p 0) ≡ read s p
+  pub last : (p : Place) → value no_functions assignment (version p (end_versions first_versions is p)) ≡ read t p
 
 -- From any state, straight code of plain instructions ends, and some assignment names its start and its end.
 abbrev pub IsNamed : List Ins → List Item → ℕ → Type 0
-IsNamed is items pos = (s : State) → IsState s → (n : ℕ) × (w : Way) × (run items n pos (start s) ≡ Ended w) × Names is s w.state
+IsNamed is items at = (s : State) → IsState s → (n : ℕ) × (w : Way) × (run items n at (start s) ≡ Ended w) × Names is s w.state

@@ -6,10 +6,10 @@ use Rattle.x64_syntax.specs.declared.places.FlagName.{FlagName}
 use Rattle.x64_syntax.specs.declared.places.Place.{Place}
 use Rattle.x64_syntax.specs.declared.places.Place.TheVariants.{Flag}
 use Rattle.x64_syntax.specs.declared.items.Item.{Item}
-use Rattle.term_core.specs.Value.{Val, Word, Truth}
+use Rattle.term_core.specs.Value.{Val, Truth}
 use Rattle.x64_meaning.specs.declared.machine.Flag.TheVariants.{Undefined}
 use Rattle.x64_meaning.specs.State.{State, IsState, read, reg, flag}
-use Rattle.x64_meaning.specs.Exp.{Exp, exp_value}
+use Rattle.x64_meaning.specs.Exp.{Exp, exp_value, no_words}
 use Rattle.x64_meaning.specs.Run.{Way, start, Ended, run}
 
 -- Which places are read and which may change, and what is asked before and promised after. In a promise the value
@@ -22,7 +22,7 @@ pub record Contract : Type 0 where
 
 -- the expression is true, by what the places hold before and after
 abbrev pub Worth : (Place → Val) → (Place → Val) → Exp → Type 0
-Worth before after e = exp_value before after (Word 0) e ≡ Truth true
+Worth before after e = exp_value before after no_words e ≡ Truth true
 
 -- what a start has to meet: the requirements hold, and flags that are read are defined
 pub record Pre (c : Contract) (s : State) : Type 0 where

@@ -1,25 +1,31 @@
 -- What one instruction does, and runs of flat code.
-use Rattle.std.specs.Prelude.{ℕ, zero, suc, ◌+◌, ◌*◌, ◌%◌, Bool, true, false, not, ◌&&◌, ◌||◌, ◌==◌, List, [], ◌∷◌, ◌++◌, Option, Some, None, slice_get, position}
+use Rattle.std.specs.Prelude.{ℕ, zero, suc, ◌+◌, ◌-◌, ◌*◌, ◌/◌, ◌%◌, length, Bool, true, false, not, ◌&&◌, ◌||◌, ◌==◌, List, [], ◌∷◌, ◌++◌, Option, Some, None, slice_get, position}
 use Rattle.std.specs.List.{find}
+use Rattle.std.specs.Int.{to_le_bytes, w64}
 use Rattle.x64_syntax.specs.declared.places.Reg.{Reg as GeneralReg}
+use Rattle.x64_syntax.specs.declared.places.Reg.TheVariants.{Rsp}
 use Rattle.x64_syntax.specs.declared.places.FlagName.{FlagName}
 use Rattle.x64_syntax.specs.declared.places.FlagName.TheVariants.{Cf, Zf, Sf, Of}
-use Rattle.x64_syntax.specs.declared.places.Place.TheVariants.{Flag}
+use Rattle.x64_syntax.specs.declared.places.Place.TheVariants.{Reg, Flag}
 use Rattle.x64_syntax.specs.declared.operands.Mem.{Mem}
 use Rattle.x64_syntax.specs.declared.instructions.Ins.{Ins}
-use Rattle.x64_syntax.specs.declared.items.Cond.{Cond}
-use Rattle.x64_syntax.specs.declared.items.Cond.TheVariants.{E, Ne, B, Be, A, Ae}
+use Rattle.x64_syntax.specs.declared.instructions.Ins.TheVariants.{Push, Pop}
+use Rattle.x64_syntax.specs.Instructions.{cond_flags, loads_from, stores_to}
+use Rattle.x64_blocks.specs.Memory.{Range, store}
+use Rattle.x64_syntax.specs.declared.conditions.Cond.{Cond}
+use Rattle.x64_syntax.specs.declared.conditions.Cond.TheVariants.{E, Ne, B, Be, A, Ae}
 use Rattle.x64_syntax.specs.declared.items.Item.{Item}
 use Rattle.x64_syntax.specs.declared.items.Item.TheVariants as item
-use Rattle.term_core.specs.Value.{T, Word}
+use Rattle.term_core.specs.Value.{T, Val, Word, word, word_of}
 use Rattle.x64_meaning.specs.declared.machine.Flag.{Flag as FlagValue}
 use Rattle.x64_meaning.specs.declared.machine.Flag.TheVariants.{Zero, One, Undefined}
 use Rattle.x64_meaning.specs.declared.machine.Obs.{Obs}
-use Rattle.x64_meaning.specs.declared.machine.Obs.TheVariants.{Access, Branch}
+use Rattle.x64_meaning.specs.declared.machine.Obs.TheVariants.{Access as AccessOf, Branch}
 use Rattle.x64_meaning.specs.declared.machine.Fault.{Fault}
 use Rattle.x64_meaning.specs.declared.machine.Fault.TheVariants.{Outside, UndefinedFlag}
-use Rattle.x64_meaning.specs.State.{State, flag, reg, load}
-use Rattle.x64_meaning.specs.Table.{equations, apply, reads, loads_from, word_of}
+use Rattle.x64_meaning.specs.State.{State, flag, reg, read, write, load}
+use Rattle.x64_meaning.specs.Exp.{Exp, exp_value, no_words}
+use Rattle.x64_meaning.specs.Table.{equations, stored, load_size, apply, reads}
 
 -- scale * index, or 0 where there is no index
 abbrev pub scaled : State → Option (GeneralReg × ℕ) → ℕ
@@ -43,35 +49,65 @@ pub data Outcome : Type 0 where
   Done : State → List Obs → Outcome
   Faulted : Fault → Outcome
 
--- the state after, by what is loaded
-abbrev pub after : State → ℕ → Ins → State
-after s loaded i = apply s (Word loaded) (equations i) s
+-- the access of an instruction: where and of how many bytes it loads, or where it stores
+pub data Access : Type 0 where
+  No : Access
+  Loads : ℕ → ℕ → Access
+  Stores : ℕ → Access
 
-abbrev pub with_loaded : State → Ins → ℕ → Option ℕ → Outcome
-with_loaded s i a None = Faulted (Outside a)
-with_loaded s i a (Some n) = Done (after s n i) (Access a 8 false ∷ [])
+abbrev pub operand_access : State → Ins → Option Mem → Option Mem → Access
+operand_access s i None None = No
+operand_access s i (Some m) _ = Loads (address s m) (load_size i)
+operand_access s i None (Some m) = Stores (address s m)
 
-abbrev pub with_memory : State → Ins → Option Mem → Outcome
-with_memory s i None = Done (after s 0 i) []
-with_memory s i (Some m) = with_loaded s i (address s m) (load s (address s m) 8)
+-- the slot below the stack pointer is pushed, and the one at it popped
+abbrev pub access : State → Ins → Access
+access s (Push r) = Stores ((reg s Rsp + (T - 8)) % T)
+access s (Pop d) = Loads (reg s Rsp) 8
+access s i = operand_access s i (loads_from i) (stores_to i)
+
+-- the stack pointer after an instruction
+abbrev pub moved : Ins → State → State
+moved (Push r) s = write s (Reg Rsp) (Word ((reg s Rsp + (T - 8)) % T))
+moved (Pop d) s = write s (Reg Rsp) (Word ((reg s Rsp + 8) % T))
+moved i s = s
+
+-- the words of a number, the lowest first
+abbrev pub word_in : ℕ → ℕ → Val
+word_in n zero = Word (n % T)
+word_in n (suc k) = word_in (n / T) k
+
+-- the state after, by the words that are loaded
+abbrev pub after : State → (ℕ → Val) → Ins → State
+after s loaded i = moved i (apply s loaded (equations i) s)
+
+-- the bytes of the words that are stored
+abbrev pub bytes_of : State → List Exp → List ℕ
+bytes_of s [] = []
+bytes_of s (e ∷ es) = to_le_bytes w64 (word (exp_value (read s) (read s) no_words e)) ++ bytes_of s es
+
+abbrev pub with_loaded : State → Ins → ℕ → ℕ → Option ℕ → Outcome
+with_loaded s i a size None = Faulted (Outside a)
+with_loaded s i a size (Some n) = Done (after s (word_in n) i) (AccessOf a size false ∷ [])
+
+abbrev pub with_stored : State → Ins → ℕ → ℕ → Option (List Range) → Outcome
+with_stored s i a size None = Faulted (Outside a)
+with_stored s i a size (Some bs) = Done (record (after s no_words i) { blocks = bs }) (AccessOf a size true ∷ [])
+
+abbrev pub with_access : State → Ins → Access → Outcome
+with_access s i No = Done (after s no_words i) []
+with_access s i (Loads a size) = with_loaded s i a size (load s a size)
+with_access s i (Stores a) = with_stored s i a (length (bytes_of s (stored i))) (store s.blocks a (bytes_of s (stored i)))
 
 abbrev pub with_flags : State → Ins → Option FlagName → Outcome
 with_flags s i (Some f) = Faulted (UndefinedFlag f)
-with_flags s i None = with_memory s i (loads_from i)
+with_flags s i None = with_access s i (access s i)
 
 -- What an instruction does: an undefined flag that it reads is a fault, and so is an access that no block holds;
--- else each place on the left of its equations gets the value on the right, and no other place differs.
+-- else each place on the left of its equations gets the value on the right, the words that it stores are stored, PUSH
+-- and POP move the stack pointer, and nothing else differs.
 abbrev pub does : Ins → State → Outcome
 does i s = with_flags s i (first_undefined (λ f. reads i (Flag f)) s)
-
--- the flags that a condition reads, in order
-abbrev pub cond_flags : Cond → List FlagName
-cond_flags E = Zf ∷ []
-cond_flags Ne = Zf ∷ []
-cond_flags B = Cf ∷ []
-cond_flags Ae = Cf ∷ []
-cond_flags Be = Cf ∷ Zf ∷ []
-cond_flags A = Cf ∷ Zf ∷ []
 
 abbrev pub is_one : FlagValue → Bool
 is_one Zero = false

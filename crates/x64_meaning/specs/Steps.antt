@@ -1,20 +1,32 @@
--- What one step of the machine that runs leaves, against what the instruction does.
-use Rattle.std.specs.Prelude.{◌≡◌, ℕ, ◌+◌, ◌%◌, ◌^◌, Bool, true, false, nat_le, ◌==◌, List, [], ◌∷◌, Option, Some, None, Result, Ok, Err, bit_and, bit_xor, slice_set}
+-- What one step of the machine that runs leaves: in plain numbers, and against what the instruction does.
+use Rattle.std.specs.Prelude.{◌≡◌, ℕ, ◌<◌, length, if◌then◌else◌, ◌+◌, ◌-◌, ◌*◌, ◌/◌, ◌%◌, ◌^◌, Bool, true, false, not, nat_le, ◌==◌, List, [], ◌∷◌, Option, Some, None, Result, Ok, Err, bit_and, bit_or, bit_xor, slice_set}
 use Rattle.x64_syntax.specs.declared.places.Reg.{Reg as GeneralReg}
+use Rattle.x64_syntax.specs.declared.places.Reg.TheVariants.{Rax, Rdx, Rsp}
+use Rattle.x64_syntax.specs.declared.places.FlagName.{FlagName}
 use Rattle.x64_syntax.specs.declared.places.FlagName.TheVariants.{Cf, Zf, Sf, Of}
 use Rattle.x64_syntax.specs.declared.operands.Opr.{Opr}
 use Rattle.x64_syntax.specs.declared.operands.Opr.TheVariants.{R, Imm, M}
+use Rattle.x64_syntax.specs.declared.instructions.AluOp.{AluOp}
+use Rattle.x64_syntax.specs.declared.instructions.AluOp.TheVariants as alu
+use Rattle.x64_syntax.specs.declared.instructions.OneOp.{OneOp}
+use Rattle.x64_syntax.specs.declared.instructions.OneOp.TheVariants as one
+use Rattle.x64_syntax.specs.declared.instructions.ShiftOp.{ShiftOp}
+use Rattle.x64_syntax.specs.declared.instructions.ShiftOp.TheVariants as shift
+use Rattle.x64_syntax.specs.declared.instructions.Ins.{Ins}
+use Rattle.x64_syntax.specs.declared.instructions.Ins.TheVariants.{Mov, Lea, Cmov, Pop, Alu, One as OneIns, Shift, Imul, Mul, Mulx, Carry, XMov, XLoad, XStore, XBin, XShuf, XShift, XIns, XExt, XMovq}
+use Rattle.x64_syntax.specs.Instructions.{carry_flag}
+use Rattle.x64_blocks.specs.Memory.{Range}
 use Rattle.x64_syntax.specs.Places.{reg_number, flag_number}
-use Rattle.term_core.specs.Value.{T}
+use Rattle.word_ops.specs.Words as words
+use Rattle.term_core.specs.Value.{T, word_of}
 use Rattle.x64_meaning.specs.declared.machine.Flag.{Flag}
-use Rattle.x64_meaning.specs.declared.machine.Flag.TheVariants.{Zero, One}
+use Rattle.x64_meaning.specs.declared.machine.Flag.TheVariants.{Zero, One, Undefined}
 use Rattle.x64_meaning.specs.declared.machine.Obs.{Obs}
 use Rattle.x64_meaning.specs.declared.machine.Fault.{Fault}
-use Rattle.x64_meaning.specs.declared.machine.Fault.TheVariants.{Outside}
+use Rattle.x64_meaning.specs.declared.machine.Fault.TheVariants.{Outside, UndefinedFlag}
 use Rattle.x64_meaning.specs.declared.machine.Obs.TheVariants.{Access}
-use Rattle.x64_meaning.specs.State.{State, reg, load}
-use Rattle.x64_meaning.specs.Table.{word_of}
-use Rattle.x64_meaning.specs.Run.{Outcome, Done, Faulted, address}
+use Rattle.x64_meaning.specs.State.{State, reg, flag, load}
+use Rattle.x64_meaning.specs.Run.{Outcome, Done, Faulted, address, is_one, cond_holds, is_undefined}
 
 -- the one observation of a step, or none
 abbrev pub last_of : List Obs → Option Obs
@@ -26,25 +38,118 @@ abbrev pub Steps : Outcome → State → State → Option Obs → Result (Unit {
 Steps (Done s seen) old new last result = (result ≡ Ok tt) × (new ≡ s) × (last ≡ last_of seen)
 Steps (Faulted f) old new last result = (result ≡ Err f) × (new ≡ old) × (last ≡ None)
 
+-- the same where the observation is returned
+abbrev pub Acts : Outcome → State → State → Result (Option Obs) Fault → Type 0
+Acts (Done s seen) old new result = (result ≡ Ok (last_of seen)) × (new ≡ s)
+Acts (Faulted f) old new result = (result ≡ Err f) × (new ≡ old)
+
+-- the first of the flags that is undefined, as a fault
+abbrev pub defined : Option FlagName → Result (Unit {0}) Fault
+defined None = Ok tt
+defined (Some f) = Err (UndefinedFlag f)
+
+-- the flag is defined where it is read
+abbrev pub defined_flag : (FlagName → Bool) → State → FlagName → Result (Unit {0}) Fault
+defined_flag is_read s f = if is_read f then (if is_undefined (flag s f) then Err (UndefinedFlag f) else Ok tt) else Ok tt
+
 -- a flag that says whether something holds
 abbrev pub flag_if : Bool → Flag
 flag_if true = One
 flag_if false = Zero
 
-abbrev pub with_reg : State → GeneralReg → ℕ → State
-with_reg s d n = record s { regs = slice_set s.regs (reg_number d) n }
+-- whether a word is negative
+abbrev pub negative : ℕ → Bool
+negative n = nat_le (2 ^ 63) n
 
--- the flags of a sum r of a and b
-abbrev pub sum_flags : List Flag → ℕ → ℕ → ℕ → List Flag
-sum_flags fs a b r =
-    slice_set (slice_set (slice_set (slice_set fs (flag_number Cf) (flag_if (nat_le T (a + b)))) (flag_number Zf) (flag_if (r == 0))) (flag_number Sf) (flag_if (nat_le (2 ^ 63) r)))
-    (flag_number Of) (flag_if (nat_le (2 ^ 63) (bit_and (bit_xor a r) (bit_xor b r))))
+abbrev pub set_flag : FlagName → Flag → State → State
+set_flag f v s = record s { flags = slice_set s.flags (flag_number f) v }
 
-abbrev pub added : State → GeneralReg → ℕ → State
-added s d b =
+abbrev pub set_reg : GeneralReg → ℕ → State → State
+set_reg d n s = record s { regs = slice_set s.regs (reg_number d) n }
+
+-- the flags of a result, in order
+abbrev pub with_result : ℕ → Flag → Flag → State → State
+with_result r carry overflow s =
+    set_flag Of overflow (set_flag Sf (flag_if (negative r)) (set_flag Zf (flag_if (r == 0)) (set_flag Cf carry s)))
+
+-- a result in a register, with its flags
+abbrev pub finished : GeneralReg → ℕ → Flag → Flag → State → State
+finished d r carry overflow s = with_result r carry overflow (set_reg d r s)
+
+-- a + b + c
+abbrev pub summed : State → GeneralReg → ℕ → Bool → State
+summed s d b c =
     let a = reg s d in
-    let r = (a + b) % T in
-    record s { regs = slice_set s.regs (reg_number d) r; flags = sum_flags s.flags a b r }
+    let r = words.sum a b c in
+    finished d r (flag_if (words.carries a b c)) (flag_if (negative (bit_and (bit_xor a r) (bit_xor b r)))) s
+
+abbrev pub difference_overflows : ℕ → ℕ → ℕ → Flag
+difference_overflows a b r = flag_if (negative (bit_and (bit_xor a b) (bit_xor a r)))
+
+-- a - b - c
+abbrev pub subtracted : State → GeneralReg → ℕ → Bool → State
+subtracted s d b c =
+    let a = reg s d in
+    let r = words.difference a b c in
+    finished d r (flag_if (words.borrows a b c)) (difference_overflows a b r) s
+
+abbrev pub compared : State → GeneralReg → ℕ → State
+compared s d b =
+    let a = reg s d in
+    let r = words.difference a b false in
+    with_result r (flag_if (words.borrows a b false)) (difference_overflows a b r) s
+
+abbrev pub alu_done : AluOp → State → GeneralReg → ℕ → State
+alu_done alu.Add s d b = summed s d b false
+alu_done alu.Adc s d b = summed s d b (is_one (flag s Cf))
+alu_done alu.Sub s d b = subtracted s d b false
+alu_done alu.Sbb s d b = subtracted s d b (is_one (flag s Cf))
+alu_done alu.Cmp s d b = compared s d b
+alu_done alu.And s d b = finished d (bit_and (reg s d) b) Zero Zero s
+alu_done alu.Or s d b = finished d (bit_or (reg s d) b) Zero Zero s
+alu_done alu.Xor s d b = finished d (bit_xor (reg s d) b) Zero Zero s
+
+abbrev pub one_done : OneOp → State → GeneralReg → State
+one_done one.Neg s d =
+    let a = reg s d in
+    finished d (words.difference 0 a false) (flag_if (not (a == 0))) (flag_if (a == 2 ^ 63)) s
+one_done one.Not s d = set_reg d (T - 1 - reg s d) s
+
+abbrev pub bit_at : ℕ → ℕ → Bool
+bit_at m a = bit_and (a / 2 ^ m) 1 == 1
+
+-- a rotation leaves carry and overflow open
+abbrev pub rotated : State → GeneralReg → ℕ → State
+rotated s d r = set_flag Of Undefined (set_flag Cf Undefined (set_reg d r s))
+
+abbrev pub shift_done : ShiftOp → State → GeneralReg → ℕ → State
+shift_done shift.Shl s d n =
+    let a = reg s d in
+    finished d ((a * 2 ^ n) % T) (flag_if (bit_at (64 - n) a)) Undefined s
+shift_done shift.Shr s d n =
+    let a = reg s d in
+    finished d (a / 2 ^ n) (flag_if (bit_at (n - 1) a)) Undefined s
+shift_done shift.Rol s d n = rotated s d (words.rol (reg s d) n % T)
+shift_done shift.Ror s d n = rotated s d (words.ror (reg s d) n % T)
+
+abbrev pub multiplied : State → GeneralReg → ℕ → State
+multiplied s d b =
+    set_flag Of Undefined (set_flag Sf Undefined (set_flag Zf Undefined (set_flag Cf Undefined (set_reg d (words.lower (reg s d) b) s))))
+
+abbrev pub wide_product : State → ℕ → State
+wide_product s b =
+    let high = words.upper (reg s Rax) b in
+    let over = flag_if (not (high == 0)) in
+    set_flag Of over (set_flag Sf Undefined (set_flag Zf Undefined (set_flag Cf over (set_reg Rdx high (set_reg Rax (words.lower (reg s Rax) b) s)))))
+
+abbrev pub halves : State → GeneralReg → GeneralReg → ℕ → State
+halves s high low b = set_reg low (words.lower (reg s Rdx) b) (set_reg high (words.upper (reg s Rdx) b) s)
+
+abbrev pub carried : FlagName → State → GeneralReg → ℕ → State
+carried f s d b =
+    let a = reg s d in
+    let c = is_one (flag s f) in
+    set_flag f (flag_if (words.carries a b c)) (set_reg d (words.sum a b c) s)
 
 -- a source's word and the access that it took, or why there is none
 abbrev pub loaded : ℕ → Option ℕ → Result (ℕ × Option Obs) Fault
@@ -55,3 +160,60 @@ abbrev pub sourced : State → Opr → Result (ℕ × Option Obs) Fault
 sourced s (R r) = Ok (reg s r, None)
 sourced s (Imm z) = Ok (word_of z, None)
 sourced s (M m) = loaded (address s m) (load s (address s m) 8)
+
+-- the source of an instruction that has one
+abbrev pub operand_of : Ins → Option Opr
+operand_of (Mov d o) = Some o
+operand_of (Alu op d o) = Some o
+operand_of (Imul d o) = Some o
+operand_of (Mul o) = Some o
+operand_of (Mulx high low o) = Some o
+operand_of (Carry op d o) = Some o
+operand_of i = None
+
+abbrev pub taken_from : State → Option Opr → Result (ℕ × Option Obs) Fault
+taken_from s None = Ok (0, None)
+taken_from s (Some o) = sourced s o
+
+-- the word that an instruction takes in, and the access that this needs
+abbrev pub taken : State → Ins → Result (ℕ × Option Obs) Fault
+taken s (Pop d) = loaded (reg s Rsp) (load s (reg s Rsp) 8)
+taken s i = taken_from s (operand_of i)
+
+-- what an instruction leaves in registers and flags, by what it took in
+abbrev pub computed : Ins → State → ℕ → State
+computed (Mov d o) s b = set_reg d b s
+computed (Lea d m) s b = set_reg d (address s m) s
+computed (Cmov c d r) s b = set_reg d (reg s (if cond_holds c s then r else d)) s
+computed (Pop d) s b = let t = set_reg d b s in set_reg Rsp ((reg t Rsp + 8) % T) t
+computed (Alu op d o) s b = alu_done op s d b
+computed (OneIns op d) s b = one_done op s d
+computed (Shift op d n) s b = shift_done op s d n
+computed (Imul d o) s b = multiplied s d b
+computed (Mul o) s b = wide_product s b
+computed (Mulx high low o) s b = halves s high low b
+computed (Carry op d o) s b = carried (carry_flag op) s d b
+computed i s b = s
+
+-- the instructions on general registers, flags and memory
+abbrev pub is_general : Ins → Bool
+is_general (XMov d s) = false
+is_general (XLoad d m) = false
+is_general (XStore m s) = false
+is_general (XBin op d s) = false
+is_general (XShuf d s n) = false
+is_general (XShift op d n) = false
+is_general (XIns d s n) = false
+is_general (XExt d s n) = false
+is_general (XMovq d s) = false
+is_general i = true
+
+-- the registers of a machine are 16 words
+pub record Fits (s : State) : Type 0 where
+  pub regs : length s.regs ≡ 16
+  pub each : (r : GeneralReg) → reg s r < T
+
+-- what a store of a word leaves
+abbrev pub Puts : Option (List Range) → ℕ → State → State → Result (Option Obs) Fault → Type 0
+Puts None a old new result = (result ≡ Err (Outside a)) × (new ≡ old)
+Puts (Some bs) a old new result = (result ≡ Ok (Some (Access a 8 true))) × (new ≡ record old { blocks = bs })

@@ -2,12 +2,15 @@
 //! that code meets a contract.
 #![tactic(auto)]
 
+mod arithmetic;
 mod laws;
 mod machine;
 mod step;
+#[cfg(test)]
+mod tests;
 mod versions;
 
 pub use laws::{forms_as_in_the_table, straight_code};
 pub use machine::{Fault, Flag, Machine, Obs, Seen};
-pub use step::step_ins;
+pub use step::{is_general, step_ins};
 pub use versions::{place_sort, version, version_name};

@@ -1,23 +1,22 @@
 // One step of the machine.
 
-ghost use Rattle.std.specs.Prelude.{◌≡◌, ◌<◌, length};
-ghost use Rattle.term_core.specs.Value.{T};
-ghost use Rattle.x64_meaning.specs.State.{reg};
-ghost use Rattle.x64_meaning.specs.Table.{word_of};
-ghost use Rattle.x64_meaning.specs.Run.{address, does};
-ghost use Rattle.x64_meaning.specs.Steps.{flag_if, added, sourced, Steps};
+ghost use Rattle.std.specs.Prelude.{◌≡◌, ◌<◌, ℕ, length, slice_index, true, is_ok, IfOk};
+ghost use Rattle.std.specs.Int.{to_le_bytes, w64};
+ghost use Rattle.x64_syntax.specs.declared.instructions.Ins.TheVariants as ins;
+ghost use Rattle.x64_syntax.specs.declared.places.Place.TheVariants as place;
+ghost use Rattle.x64_syntax.specs.Instructions.{form_of, carry_flag, read_places, is_among};
+ghost use Rattle.x64_blocks.specs.Memory.{store};
+ghost use Rattle.term_core.specs.Value.{T, word_of};
+ghost use Rattle.x64_meaning.specs.State.{flag, load};
+ghost use Rattle.x64_meaning.specs.Run.{is_undefined, address, access, with_access, does, cond_holds, first_undefined};
+ghost use Rattle.x64_meaning.specs.Steps.{loaded, sourced, taken, computed, Fits, is_general, defined_flag, defined, Puts, Acts, Steps};
 
+use crate::arithmetic::{
+    add_with, alu, is_set, multiply, multiply_apart, multiply_wide, one, shift,
+};
+use crate::laws::forms_as_in_the_table;
 use crate::machine::{Fault, Flag, Machine, Obs, Seen};
-use x64_syntax::{AluOp, FlagName, Ins, Mem, Opr, Reg};
-
-/// 2^63, from which a word is negative.
-const NEGATIVE_FROM: u64 = 1 << 63;
-
-fn flag_if(holds: bool) -> Flag
-    ensures { result ≡ flag_if holds }
-{
-    if holds { Flag::One } else { Flag::Zero }
-}
+use x64_syntax::{CarryOp, Cond, FlagName, Ins, Mem, Opr, Place, Reg, reads_of};
 
 fn displacement(mem: &Mem) -> u64
     ensures { result ≡ word_of mem.now.disp }
@@ -37,6 +36,21 @@ fn address(m: &Machine, mem: &Mem) -> u64
     base.wrapping_add(index).wrapping_add(displacement(mem))
 }
 
+// The word at an address, and the access.
+fn load(m: &Machine, address: u64) -> Result<(u64, Option<Obs>), Fault>
+    ensures { result ≡ loaded address (load m.now address 8) }
+{
+    let access = Obs::Access {
+        address,
+        size: 8,
+        write: false,
+    };
+    match m.blocks.load8(address) {
+        Ok(word) => Ok((word, Some(access))),
+        Err(_) => Err(Fault::Outside { address }),
+    }
+}
+
 // The word of a source, and the access that it took.
 fn source(m: &Machine, s: &Opr) -> Result<(u64, Option<Obs>), Fault>
     ensures { result ≡ sourced m.now s.now }
@@ -44,206 +58,195 @@ fn source(m: &Machine, s: &Opr) -> Result<(u64, Option<Obs>), Fault>
     match s {
         Opr::R(reg) => Ok((m.regs[reg.number()], None)),
         Opr::Imm(n) => Ok((n.cast_unsigned(), None)),
-        Opr::M(mem) => {
-            let address = address(m, mem);
-            let access = Obs::Access {
-                address,
-                size: 8,
-                write: false,
-            };
-            match m.blocks.load8(address) {
-                Ok(word) => Ok((word, Some(access))),
-                Err(_) => Err(Fault::Outside { address }),
-            }
+        Opr::M(mem) => load(m, address(m, mem)),
+    }
+}
+
+// Registers are 16 words, and flags are four.
+fn are_words(regs: [u64; 16])
+    ensures length { length regs ≡ 16 }
+    ensures fits { (k : ℕ) → slice_index regs k < T }
+{}
+
+fn are_four(flags: &[Flag; 4])
+    ensures { length flags.now ≡ 4 }
+{}
+
+// The word that an instruction takes in beside its registers, and the access that this needs.
+fn taken(m: &Machine, ins: &Ins) -> Result<(u64, Option<Obs>), Fault>
+    ensures value { result ≡ taken m.now ins.now }
+    ensures fits { Fits m.now }
+    ensures word { IfOk result (λ r. r.0 < T) }
+{
+    are_words(m.regs);
+    let rsp = m.regs[Reg::Rsp.number()];
+    match ins {
+        Ins::Mov { s, .. }
+        | Ins::Alu { s, .. }
+        | Ins::Imul { s, .. }
+        | Ins::Mul { s }
+        | Ins::Mulx { s, .. }
+        | Ins::Carry { s, .. } => source(m, s),
+        Ins::Pop { .. } => load(m, rsp),
+        _ => Ok((0, None)),
+    }
+}
+
+// Computes what an instruction leaves in registers and flags, from what it took in.
+fn compute(m: &mut Machine, ins: &Ins, word: u64)
+    requires { is_ok (form_of ins.now) ≡ true }
+    ensures { m.new ≡ computed ins.now m.old word }
+{
+    match ins {
+        Ins::Mov { d, .. } => m.regs[d.number()] = word,
+        Ins::Lea { d, m: mem } => m.regs[d.number()] = address(m, mem),
+        Ins::Cmov { c, d, s } => {
+            let from = if holds(m, *c) { *s } else { *d };
+            m.regs[d.number()] = m.regs[from.number()];
+        }
+        Ins::Pop { d } => {
+            m.regs[d.number()] = word;
+            m.regs[Reg::Rsp.number()] = m.regs[Reg::Rsp.number()].wrapping_add(8);
+        }
+        Ins::Alu { op, d, .. } => alu(m, *op, *d, word),
+        Ins::One { op, d } => one(m, *op, *d),
+        Ins::Shift { op, d, n } => shift(m, *op, *d, *n),
+        Ins::Imul { d, .. } => multiply(m, *d, word),
+        Ins::Mul { .. } => multiply_wide(m, word),
+        Ins::Mulx { hi, lo, .. } => multiply_apart(m, *hi, *lo, word),
+        Ins::Carry { op, d, .. } => add_with(m, carry_flag(*op), *d, word),
+        _ => {}
+    }
+}
+
+fn carry_flag(op: CarryOp) -> FlagName
+    ensures { result ≡ carry_flag op }
+{
+    match op {
+        CarryOp::Adcx => FlagName::Cf,
+        CarryOp::Adox => FlagName::Of,
+    }
+}
+
+// Whether a condition holds of flags that are defined.
+fn holds(m: &Machine, c: Cond) -> bool
+    ensures { result ≡ cond_holds c m.now }
+{
+    let cf = is_set(m, FlagName::Cf);
+    let zf = is_set(m, FlagName::Zf);
+    match c {
+        Cond::E => zf,
+        Cond::Ne => !zf,
+        Cond::B => cf,
+        Cond::Ae => !cf,
+        Cond::Be => cf || zf,
+        Cond::A => !cf && !zf,
+    }
+}
+
+// Stores a word, and what an observer sees of it.
+fn store(m: &mut Machine, address: u64, word: u64) -> Result<Option<Obs>, Fault>
+    ensures { Puts (store m.old.blocks address (to_le_bytes w64 word)) address m.old m.new result }
+{
+    let access = Obs::Access {
+        address,
+        size: 8,
+        write: true,
+    };
+    match m.blocks.store8(address, word) {
+        Ok(()) => Ok(Some(access)),
+        Err(_) => Err(Fault::Outside { address }),
+    }
+}
+
+// Stores a register at a memory operand.
+fn save(m: &mut Machine, mem: &Mem, s: Reg) -> Result<Option<Obs>, Fault>
+    ensures { Acts (with_access m.old (ins.Store mem.now s) (access m.old (ins.Store mem.now s))) m.old m.new result }
+{
+    store(m, address(m, mem), m.regs[s.number()])
+}
+
+// Stores a register below the stack pointer, and lowers it.
+fn push(m: &mut Machine, s: Reg) -> Result<Option<Obs>, Fault>
+    ensures { Acts (with_access m.old (ins.Push s) (access m.old (ins.Push s))) m.old m.new result }
+{
+    let slot = m.regs[Reg::Rsp.number()].wrapping_sub(8);
+    let seen = store(m, slot, m.regs[s.number()])?;
+    m.regs[Reg::Rsp.number()] = slot;
+    Ok(seen)
+}
+
+// Does what an instruction does whose flags are defined, and gives what an observer sees.
+fn act(m: &mut Machine, ins: &Ins) -> Result<Option<Obs>, Fault>
+    requires form { is_ok (form_of ins.now) ≡ true }
+    requires general { is_general ins.now ≡ true }
+    ensures { Acts (with_access m.old ins.now (access m.old ins.now)) m.old m.new result }
+{
+    match ins {
+        Ins::Store { m: mem, s } => save(m, mem, *s),
+        Ins::Push { s } => push(m, *s),
+        _ => {
+            let (word, seen) = taken(m, ins)?;
+            compute(m, ins, word);
+            Ok(seen)
         }
     }
 }
 
-// Adds a word to a register, and sets the flags.
-fn add(m: &mut Machine, d: Reg, b: u64)
-    ensures added { m.new ≡ added m.old d b }
-    ensures registers { length m.old.regs ≡ 16 }
-    ensures register_fits { reg m.old d < T }
-    ensures word_fits { b < T }
+fn is_open(m: &Machine, name: FlagName) -> bool
+    ensures { result ≡ is_undefined (flag m.now name) }
 {
-    let a = m.regs[d.number()];
-    let (r, carries) = a.overflowing_add(b);
-    m.regs[d.number()] = r;
-    m.flags[FlagName::Cf.number()] = flag_if(carries);
-    m.flags[FlagName::Zf.number()] = flag_if(r == 0);
-    m.flags[FlagName::Sf.number()] = flag_if(NEGATIVE_FROM <= r);
-    m.flags[FlagName::Of.number()] = flag_if(NEGATIVE_FROM <= (a ^ r) & (b ^ r));
+    are_four(&m.flags);
+    m.flags[name.number()] == Flag::Undefined
+}
+
+fn is_defined(m: &Machine, ins: &Ins, flag: FlagName) -> Result<(), Fault>
+    ensures { result ≡ defined_flag (λ f. is_among (read_places ins.now) (place.Flag f)) m.now flag }
+{
+    if reads_of(ins).contains(Place::Flag(flag)) && is_open(m, flag) {
+        return Err(Fault::UndefinedFlag { flag });
+    }
+    Ok(())
+}
+
+// Whether the flags that an instruction reads are defined; else the first that isn't.
+fn are_defined(m: &Machine, ins: &Ins) -> Result<(), Fault>
+    ensures { result ≡ defined (first_undefined (λ f. is_among (read_places ins.now) (place.Flag f)) m.now) }
+{
+    is_defined(m, ins, FlagName::Cf)?;
+    is_defined(m, ins, FlagName::Zf)?;
+    is_defined(m, ins, FlagName::Sf)?;
+    is_defined(m, ins, FlagName::Of)
+}
+
+/// Whether an instruction works on general registers, flags and memory alone.
+pub fn is_general(ins: &Ins) -> bool
+    ensures { result ≡ is_general ins.now }
+{
+    !matches!(
+        ins,
+        Ins::XMov { .. }
+            | Ins::XLoad { .. }
+            | Ins::XStore { .. }
+            | Ins::XBin { .. }
+            | Ins::XShuf { .. }
+            | Ins::XShift { .. }
+            | Ins::XIns { .. }
+            | Ins::XExt { .. }
+            | Ins::XMovq { .. }
+    )
 }
 
 /// One step: what the instruction does, and what an observer sees of it. After a fault the machine is as before, and
 /// nothing is seen. See docs/MACHINE.md.
 pub fn step_ins(m: &mut Machine, ins: &Ins, seen: &mut Seen) -> Result<(), Fault>
+    requires form { is_ok (form_of ins.now) ≡ true }
+    requires general { is_general ins.now ≡ true }
     ensures { Steps (does ins.now m.old) m.old m.new seen.new.last result }
 {
+    forms_as_in_the_table();
     seen.last = None;
-    match ins {
-        Ins::Mov { d, s } => {
-            let (word, access) = source(m, s)?;
-            m.regs[d.number()] = word;
-            seen.last = access;
-        }
-        Ins::Alu {
-            op: AluOp::Add,
-            d,
-            s,
-        } => {
-            let (word, access) = source(m, s)?;
-            add(m, *d, word);
-            seen.last = access;
-        }
-    }
+    are_defined(m, ins)?;
+    seen.last = act(m, ins)?;
     Ok(())
-}
-
-#[cfg(test)]
-mod tests {
-    use super::*;
-    use std::alloc::Global;
-    use std::test::Fail;
-    use x64_blocks::Blocks;
-
-    const TOP: u64 = u64::MAX;
-
-    const HALF: u64 = 1 << 63;
-
-    // Words at 8,192 and 8,200, another block that touches them, and one at the end of memory.
-    fn machine(alloc: Global) -> Result<Machine, Fail> {
-        let mut bytes = Vec::from_slice(alloc, &TOP.to_le_bytes())?;
-        bytes.extend_from_slice(&258u64.to_le_bytes())?;
-        let mut blocks = Blocks::new(alloc);
-        blocks.add(8192, bytes)?;
-        blocks.add(8208, Vec::from_slice(alloc, &7u64.to_le_bytes())?)?;
-        blocks.add(TOP - 7, Vec::from_slice(alloc, &HALF.to_le_bytes())?)?;
-        let mut m = Machine::new(blocks);
-        m.regs[Reg::Rax.number()] = 10;
-        m.regs[Reg::Rbx.number()] = 1;
-        m.regs[Reg::Rcx.number()] = TOP;
-        m.regs[Reg::Rsi.number()] = 8192;
-        Ok(m)
-    }
-
-    const fn memory(base: Reg, index: Option<(Reg, u8)>, disp: i32) -> Opr {
-        Opr::M(Mem { base, index, disp })
-    }
-
-    const fn read(address: u64) -> Obs {
-        Obs::Access {
-            address,
-            size: 8,
-            write: false,
-        }
-    }
-
-    #[test]
-    fn adds_words_and_sets_the_flags(rt: HostRuntime) {
-        for (a, b, sum, flags) in [
-            (1, 1, 2, 0),
-            (0, 0, 0, 0b0010),
-            (TOP, 0, TOP, 0b0100),
-            (TOP, 1, 0, 0b0011),
-            (5, TOP - 4, 0, 0b0011),
-            (TOP, TOP, TOP - 1, 0b0101),
-            (HALF - 1, 0, HALF - 1, 0),
-            (HALF - 1, 1, HALF, 0b1100),
-            (HALF - 1, HALF - 1, TOP - 1, 0b1100),
-            (HALF, 1, HALF + 1, 0b0100),
-            (HALF, HALF - 1, TOP, 0b0100),
-            (HALF, HALF, 0, 0b1011),
-            (HALF, TOP, HALF - 1, 0b1001),
-        ] {
-            let mut m = Machine::new(Blocks::new(rt.alloc()));
-            m.regs[Reg::R9.number()] = a;
-            m.regs[Reg::R15.number()] = b;
-            let ins = Ins::Alu {
-                op: AluOp::Add,
-                d: Reg::R9,
-                s: Opr::R(Reg::R15),
-            };
-            let mut seen = Seen {
-                last: Some(read(0)),
-            };
-            assert_eq!(rt; step_ins(&mut m, &ins, &mut seen), Ok(()));
-            assert_eq!(rt; seen.last, None);
-            assert_eq!(rt; m.regs[Reg::R9.number()], sum, "at {a} {b}");
-            assert_eq!(rt; m.regs[Reg::R15.number()], b);
-            for k in 0..4 {
-                assert_eq!(rt; m.flags[k], flag_if(flags >> k & 1 == 1), "at {a} {b} {k}");
-            }
-        }
-    }
-
-    #[test]
-    fn reads_sources(rt: HostRuntime) -> Result<(), Fail> {
-        let rsi = Reg::Rsi;
-        let rcx = Reg::Rcx;
-        for (s, want, last) in [
-            (Opr::R(rcx), TOP, None),
-            (Opr::Imm(-1), TOP, None),
-            (Opr::Imm(i64::MIN), HALF, None),
-            (Opr::Imm(5), 5, None),
-            (memory(rsi, None, 0), TOP, Some(read(8192))),
-            (memory(rsi, None, 8), 258, Some(read(8200))),
-            (memory(rsi, None, 16), 7, Some(read(8208))),
-            (memory(rsi, Some((Reg::Rbx, 8)), 0), 258, Some(read(8200))),
-            (memory(rsi, Some((rcx, 8)), 16), 258, Some(read(8200))),
-            (memory(Reg::Rbx, Some((rsi, 1)), -1), TOP, Some(read(8192))),
-            (memory(rcx, None, -7), HALF, Some(read(TOP - 7))),
-        ] {
-            let mut m = machine(rt.alloc())?;
-            let mut seen = Seen { last: None };
-            let ins = Ins::Mov { d: Reg::Rax, s };
-            assert_eq!(rt; step_ins(&mut m, &ins, &mut seen), Ok(()));
-            assert_eq!(rt; m.regs[Reg::Rax.number()], want);
-            assert_eq!(rt; m.flags[0], Flag::Undefined);
-            assert_eq!(rt; seen.last, last);
-            let ins = Ins::Alu {
-                op: AluOp::Add,
-                d: Reg::Rbx,
-                s,
-            };
-            assert_eq!(rt; step_ins(&mut m, &ins, &mut seen), Ok(()));
-            assert_eq!(rt; m.regs[Reg::Rbx.number()], want.wrapping_add(1));
-            assert_eq!(rt; seen.last, last);
-        }
-        Ok(())
-    }
-
-    #[test]
-    fn faults_change_nothing(rt: HostRuntime) -> Result<(), Fail> {
-        for (base, disp, address) in [
-            (Reg::Rsi, -1, 8191),
-            (Reg::Rsi, 9, 8201),
-            (Reg::Rsi, 12, 8204),
-            (Reg::Rsi, 17, 8209),
-            (Reg::Rcx, 0, TOP),
-            (Reg::Rcx, 1, 0),
-            (Reg::Rbx, -2, TOP),
-        ] {
-            let mut m = machine(rt.alloc())?;
-            let s = memory(base, None, disp);
-            for ins in [
-                Ins::Mov { d: Reg::Rax, s },
-                Ins::Alu {
-                    op: AluOp::Add,
-                    d: Reg::Rax,
-                    s,
-                },
-            ] {
-                let mut seen = Seen {
-                    last: Some(read(8192)),
-                };
-                let faulted = step_ins(&mut m, &ins, &mut seen);
-                assert_eq!(rt; faulted, Err(Fault::Outside { address }));
-                assert_eq!(rt; seen.last, None);
-                assert_eq!(rt; m.regs[Reg::Rax.number()], 10);
-                assert_eq!(rt; m.flags[1], Flag::Undefined);
-            }
-        }
-        Ok(())
-    }
 }

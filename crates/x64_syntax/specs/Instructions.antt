@@ -1,79 +1,230 @@
--- The instructions: what each takes, what it reads and what it writes. A further instruction is a further row of each
--- table.
-use Rattle.std.specs.Prelude.{ℕ, ◌-◌, ◌^◌, pos, negsuc, Bool, true, not, ◌&&◌, ◌||◌, ◌==◌, int_le, List, [], ◌∷◌, map, Option, Some, None, Result, Ok, Err, if◌then◌else◌}
-use Rattle.std.specs.List.{list_all, list_any}
+-- The instructions: what each takes, what it reads and what it writes, by volume 2 of Intel's manual. A further
+-- instruction is a further row of each table.
+use Rattle.std.specs.Prelude.{ℕ, ◌-◌, ◌^◌, ℤ, pos, negsuc, Bool, true, false, not, ◌&&◌, ◌||◌, ◌==◌, int_le, nat_le, List, [], ◌∷◌, ◌++◌, map, Option, Some, None, Result, Ok, Err, if◌then◌else◌}
+use Rattle.std.specs.List.{list_any}
 use Rattle.x64_syntax.specs.declared.places.Reg.{Reg as GeneralReg}
-use Rattle.x64_syntax.specs.declared.places.Reg.TheVariants.{Rsp}
+use Rattle.x64_syntax.specs.declared.places.Reg.TheVariants.{Rax, Rdx, Rsp}
+use Rattle.x64_syntax.specs.declared.places.FlagName.{FlagName}
 use Rattle.x64_syntax.specs.declared.places.FlagName.TheVariants.{Cf, Zf, Sf, Of}
 use Rattle.x64_syntax.specs.declared.places.Place.{Place}
-use Rattle.x64_syntax.specs.declared.places.Place.TheVariants.{Reg, Flag}
+use Rattle.x64_syntax.specs.declared.places.Place.TheVariants.{Reg, Xmm, Flag}
+use Rattle.x64_syntax.specs.declared.operands.Mem.{Mem}
 use Rattle.x64_syntax.specs.declared.operands.Opr.{Opr}
 use Rattle.x64_syntax.specs.declared.operands.Opr.TheVariants.{R, Imm, M}
+use Rattle.x64_syntax.specs.declared.conditions.Cond.{Cond}
+use Rattle.x64_syntax.specs.declared.conditions.Cond.TheVariants.{E, Ne, B, Be, A, Ae}
+use Rattle.x64_syntax.specs.declared.instructions.AluOp.{AluOp}
+use Rattle.x64_syntax.specs.declared.instructions.AluOp.TheVariants as alu
+use Rattle.x64_syntax.specs.declared.instructions.OneOp.{OneOp}
+use Rattle.x64_syntax.specs.declared.instructions.OneOp.TheVariants as one
+use Rattle.x64_syntax.specs.declared.instructions.ShiftOp.{ShiftOp}
+use Rattle.x64_syntax.specs.declared.instructions.ShiftOp.TheVariants as shift
+use Rattle.x64_syntax.specs.declared.instructions.CarryOp.{CarryOp}
+use Rattle.x64_syntax.specs.declared.instructions.CarryOp.TheVariants as carry
 use Rattle.x64_syntax.specs.declared.instructions.Ins.{Ins}
-use Rattle.x64_syntax.specs.declared.instructions.Ins.TheVariants.{Mov, Alu}
+use Rattle.x64_syntax.specs.declared.instructions.Ins.TheVariants.{Mov, Store, Lea, Cmov, Push, Pop, Alu, One, Shift, Imul, Mul, Mulx, Carry, XMov, XLoad, XStore, XBin, XShuf, XShift, XIns, XExt, XMovq}
 use Rattle.x64_syntax.specs.declared.forms.FormFault.{FormFault}
-use Rattle.x64_syntax.specs.declared.forms.FormFault.TheVariants.{Immediate, Scale, Register}
-use Rattle.x64_syntax.specs.declared.forms.Operand.{Operand}
-use Rattle.x64_syntax.specs.declared.forms.Operand.TheVariants.{General, Source}
+use Rattle.x64_syntax.specs.declared.forms.FormFault.TheVariants.{Immediate, Count, Scale, Register, SameHighLow}
 use Rattle.x64_syntax.specs.Places.{reg_eq, place_eq}
 
--- The operands, each as its form takes it: a register, or a source with the least and the greatest constant that it may
--- be.
-abbrev pub operands : Ins → List Operand
-operands (Mov d s) = General d ∷ Source (negsuc (2 ^ 63 - 1)) (pos (2 ^ 63 - 1)) s ∷ []
-operands (Alu op d s) = General d ∷ Source (negsuc (2 ^ 31 - 1)) (pos (2 ^ 31 - 1)) s ∷ []
+-- the source is a register, memory, or a constant of the range
+abbrev pub in_range : ℤ → ℤ → Opr → Bool
+in_range low high (Imm z) = int_le low z && int_le z high
+in_range low high _ = true
+
+-- the source is a register or memory
+abbrev pub no_constant : Opr → Bool
+no_constant (Imm z) = false
+no_constant _ = true
+
+-- what instructions with flags take as constants, and tests too
+abbrev pub is_short : Opr → Bool
+is_short s = in_range (negsuc (2 ^ 31 - 1)) (pos (2 ^ 31 - 1)) s
+
+-- the constant is one that the form takes
+abbrev pub constant_fits : Ins → Bool
+constant_fits (Mov d s) = in_range (negsuc (2 ^ 63 - 1)) (pos (2 ^ 63 - 1)) s
+constant_fits (Alu op d s) = is_short s
+constant_fits (Imul d s) = no_constant s
+constant_fits (Mul s) = no_constant s
+constant_fits (Mulx high low s) = no_constant s
+constant_fits (Carry op d s) = no_constant s
+constant_fits _ = true
+
+-- shifts go by 1 to 63 bits, an xmm register has the words 0 and 1, and its shifts and picks go by a byte
+abbrev pub count_fits : Ins → Bool
+count_fits (Shift op d n) = nat_le 1 n && nat_le n 63
+count_fits (XIns d s n) = nat_le n 1
+count_fits (XExt d s n) = nat_le n 1
+count_fits (XShuf d s n) = nat_le n 255
+count_fits (XShift op d n) = nat_le n 255
+count_fits _ = true
+
+abbrev pub source_memory : Opr → Option Mem
+source_memory (M m) = Some m
+source_memory _ = None
+
+-- the memory operand that is loaded from
+abbrev pub loads_from : Ins → Option Mem
+loads_from (Mov d s) = source_memory s
+loads_from (Alu op d s) = source_memory s
+loads_from (Imul d s) = source_memory s
+loads_from (Mul s) = source_memory s
+loads_from (Mulx high low s) = source_memory s
+loads_from (Carry op d s) = source_memory s
+loads_from (XLoad d m) = Some m
+loads_from _ = None
+
+-- the memory operand that is stored to
+abbrev pub stores_to : Ins → Option Mem
+stores_to (Store m s) = Some m
+stores_to (XStore m s) = Some m
+stores_to _ = None
+
+abbrev pub or_else : Option Mem → Option Mem → Option Mem
+or_else None n = n
+or_else (Some m) n = Some m
+
+-- the memory operand of an access
+abbrev pub accesses : Ins → Option Mem
+accesses i = or_else (loads_from i) (stores_to i)
+
+-- the operand that has an address: that of an access, or that of Lea
+abbrev pub addresses : Ins → Option Mem
+addresses (Lea d m) = Some m
+addresses i = accesses i
 
 abbrev pub index_registers : Option (GeneralReg × ℕ) → List GeneralReg
 index_registers None = []
 index_registers (Some i) = i.0 ∷ []
 
--- the registers in a source
-abbrev pub source_registers : Opr → List GeneralReg
-source_registers (R r) = r ∷ []
-source_registers (Imm z) = []
-source_registers (M m) = m.base ∷ index_registers m.index
-
-abbrev pub operand_registers : Operand → List GeneralReg
-operand_registers (General r) = r ∷ []
-operand_registers (Source low high s) = source_registers s
-
--- the constant is one that the form takes
-abbrev pub constant_fits : Operand → Bool
-constant_fits (Source low high (Imm z)) = int_le low z && int_le z high
-constant_fits _ = true
-
 abbrev pub is_scale : Option (GeneralReg × ℕ) → Bool
 is_scale None = true
 is_scale (Some i) = ((i.1 == 1) || (i.1 == 2)) || ((i.1 == 4) || (i.1 == 8))
 
-abbrev pub scale_fits : Operand → Bool
-scale_fits (Source low high (M m)) = is_scale m.index
-scale_fits _ = true
+-- the displacement is a number of 32 bits with sign
+abbrev pub displacement_fits : Option Mem → Bool
+displacement_fits None = true
+displacement_fits (Some m) = int_le (negsuc (2 ^ 31 - 1)) m.disp && int_le m.disp (pos (2 ^ 31 - 1))
 
--- rsp is no operand, base or index
-abbrev pub without_rsp : Operand → Bool
-without_rsp o = not (list_any (λ r. reg_eq r Rsp) (operand_registers o))
+abbrev pub has_scale : Option Mem → Bool
+has_scale None = true
+has_scale (Some m) = is_scale m.index
 
--- why an instruction isn't one of the machine's: constants first, then scales, then registers
-abbrev pub form_of : Ins → Result (Unit {0}) FormFault
-form_of i =
-    if not (list_all constant_fits (operands i)) then Err Immediate
-    else if not (list_all scale_fits (operands i)) then Err Scale
-    else if not (list_all without_rsp (operands i)) then Err Register
-    else Ok tt
+-- the registers of an address
+abbrev pub address_places : Mem → List Place
+address_places m = Reg m.base ∷ map Reg (index_registers m.index)
 
--- the places that an instruction reads: its sources with base and index, and its destination where it combines it
+-- the registers of a source
+abbrev pub source_places : Opr → List Place
+source_places (R r) = Reg r ∷ []
+source_places (Imm z) = []
+source_places (M m) = address_places m
+
+-- the flags that a condition asks for
+abbrev pub cond_flags : Cond → List FlagName
+cond_flags E = Zf ∷ []
+cond_flags Ne = Zf ∷ []
+cond_flags B = Cf ∷ []
+cond_flags Ae = Cf ∷ []
+cond_flags Be = Cf ∷ Zf ∷ []
+cond_flags A = Cf ∷ Zf ∷ []
+
+-- the flag that a sum or difference takes in
+abbrev pub alu_reads : AluOp → List Place
+alu_reads alu.Adc = Flag Cf ∷ []
+alu_reads alu.Sbb = Flag Cf ∷ []
+alu_reads _ = []
+
+abbrev pub carry_flag : CarryOp → FlagName
+carry_flag carry.Adcx = Cf
+carry_flag carry.Adox = Of
+
+-- the places that an instruction reads: its sources with base and index, its destination where it is combined, and flags
 abbrev pub read_places : Ins → List Place
-read_places (Mov d s) = map Reg (source_registers s)
-read_places (Alu op d s) = Reg d ∷ map Reg (source_registers s)
+read_places (Mov d s) = source_places s
+read_places (Store m s) = Reg s ∷ address_places m
+read_places (Lea d m) = address_places m
+read_places (Cmov c d s) = Reg s ∷ Reg d ∷ map Flag (cond_flags c)
+read_places (Push s) = Reg s ∷ []
+read_places (Pop d) = []
+read_places (Alu op d s) = Reg d ∷ (alu_reads op ++ source_places s)
+read_places (One op d) = Reg d ∷ []
+read_places (Shift op d n) = Reg d ∷ []
+read_places (Imul d s) = Reg d ∷ source_places s
+read_places (Mul s) = Reg Rax ∷ source_places s
+read_places (Mulx high low s) = Reg Rdx ∷ source_places s
+read_places (Carry op d s) = Reg d ∷ Flag (carry_flag op) ∷ source_places s
+read_places (XMov d s) = Xmm s ∷ []
+read_places (XLoad d m) = address_places m
+read_places (XStore m s) = Xmm s ∷ address_places m
+read_places (XBin op d s) = Xmm d ∷ Xmm s ∷ []
+read_places (XShuf d s n) = Xmm s ∷ []
+read_places (XShift op d n) = Xmm d ∷ []
+read_places (XIns d s n) = Xmm d ∷ Reg s ∷ []
+read_places (XExt d s n) = Xmm s ∷ []
+read_places (XMovq d s) = Reg s ∷ []
 
 abbrev pub all_flags : List Place
 all_flags = Flag Cf ∷ Flag Zf ∷ Flag Sf ∷ Flag Of ∷ []
 
+abbrev pub alu_writes : AluOp → GeneralReg → List Place
+alu_writes alu.Cmp d = all_flags
+alu_writes _ d = Reg d ∷ all_flags
+
+abbrev pub one_writes : OneOp → GeneralReg → List Place
+one_writes one.Neg d = Reg d ∷ all_flags
+one_writes one.Not d = Reg d ∷ []
+
+abbrev pub shift_writes : ShiftOp → GeneralReg → List Place
+shift_writes shift.Shl d = Reg d ∷ all_flags
+shift_writes shift.Shr d = Reg d ∷ all_flags
+shift_writes shift.Rol d = Reg d ∷ Flag Cf ∷ Flag Of ∷ []
+shift_writes shift.Ror d = Reg d ∷ Flag Cf ∷ Flag Of ∷ []
+
 -- the places that an instruction writes
 abbrev pub written_places : Ins → List Place
 written_places (Mov d s) = Reg d ∷ []
-written_places (Alu op d s) = Reg d ∷ all_flags
+written_places (Store m s) = []
+written_places (Lea d m) = Reg d ∷ []
+written_places (Cmov c d s) = Reg d ∷ []
+written_places (Push s) = []
+written_places (Pop d) = Reg d ∷ []
+written_places (Alu op d s) = alu_writes op d
+written_places (One op d) = one_writes op d
+written_places (Shift op d n) = shift_writes op d
+written_places (Imul d s) = Reg d ∷ all_flags
+written_places (Mul s) = Reg Rax ∷ Reg Rdx ∷ all_flags
+written_places (Mulx high low s) = Reg high ∷ Reg low ∷ []
+written_places (Carry op d s) = Reg d ∷ Flag (carry_flag op) ∷ []
+written_places (XMov d s) = Xmm d ∷ []
+written_places (XLoad d m) = Xmm d ∷ []
+written_places (XStore m s) = []
+written_places (XBin op d s) = Xmm d ∷ []
+written_places (XShuf d s n) = Xmm d ∷ []
+written_places (XShift op d n) = Xmm d ∷ []
+written_places (XIns d s n) = Xmm d ∷ []
+written_places (XExt d s n) = Reg d ∷ []
+written_places (XMovq d s) = Xmm d ∷ []
 
 abbrev pub is_among : List Place → Place → Bool
 is_among places p = list_any (place_eq p) places
+
+-- rsp is no operand, base or index: PUSH and POP alone use it, without naming it
+abbrev pub names_rsp : Ins → Bool
+names_rsp i = is_among (read_places i) (Reg Rsp) || is_among (written_places i) (Reg Rsp)
+
+-- the halves of a product go to two registers
+abbrev pub halves_differ : Ins → Bool
+halves_differ (Mulx high low s) = not (reg_eq high low)
+halves_differ _ = true
+
+-- why an instruction isn't one of the machine's: constants and displacements first, then counts, scales, registers, and the halves
+abbrev pub form_of : Ins → Result (Unit {0}) FormFault
+form_of i =
+    if not (constant_fits i && displacement_fits (addresses i)) then Err Immediate
+    else if not (count_fits i) then Err Count
+    else if not (has_scale (addresses i)) then Err Scale
+    else if names_rsp i then Err Register
+    else if not (halves_differ i) then Err SameHighLow
+    else Ok tt

@@ -1,6 +1,9 @@
 pub mod Places
+pub mod OperatorNumbers
 pub mod Words
 pub mod PlaceSets
 pub mod Instructions
 pub mod Programs
 pub mod LabelCount
+pub mod Code
+pub mod Numbers

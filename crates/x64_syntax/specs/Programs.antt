@@ -1,5 +1,5 @@
 -- Programs: flat code in pieces, each under the name of an export.
-use Rattle.std.specs.Prelude.{ℕ, ◌+◌, Bool, true, false, not, ◌&&◌, ◌||◌, ◌==◌, is_ok, List, [], ◌∷◌}
+use Rattle.std.specs.Prelude.{ℕ, ◌+◌, ◌^◌, nat_lt, Bool, true, false, not, ◌&&◌, ◌||◌, ◌==◌, is_ok, List, [], ◌∷◌}
 use Rattle.std.specs.List.{list_all}
 use Rattle.std.specs.Str.{bytes_eq}
 use Rattle.x64_syntax.specs.declared.items.Item.{Item}
@@ -25,11 +25,14 @@ entries_differ [] = true
 entries_differ (item.Entry name ∷ is) = not (has_entry name is) && entries_differ is
 entries_differ (_ ∷ is) = entries_differ is
 
--- an instruction of the machine, or an entry under a name that an export may have
+-- an instruction of the machine, an entry under a name that an export may have, and labels of 32 bits
 abbrev pub is_item : Item → Bool
 is_item (item.Ins i) = is_ok (form_of i)
 is_item (item.Entry name) = is_export_text name
-is_item _ = true
+is_item (item.Label l) = nat_lt l (2 ^ 32)
+is_item (item.Jmp l) = nat_lt l (2 ^ 32)
+is_item (item.Jcc c l) = nat_lt l (2 ^ 32)
+is_item item.Ret = true
 
 -- labels in the order of the code are k, k + 1, ..
 abbrev pub labels_from : ℕ → List Item → Bool

@@ -1,13 +1,14 @@
 // What each instruction takes, reads and writes.
 
-ghost use Rattle.std.specs.Prelude.{◌≡◌, ◌||◌, map};
+ghost use Rattle.std.specs.Prelude.{◌≡◌, nat_le, true, ◌||◌, ◌++◌, ◌∷◌, [], map};
 ghost use Rattle.x64_syntax.specs.declared.places.Place.{Place as APlace};
 ghost use Rattle.x64_syntax.specs.declared.places.Place.TheVariants as place;
 ghost use Rattle.x64_syntax.specs.Places.{place_eq};
 ghost use Rattle.x64_syntax.specs.PlaceSets.{in_set};
-ghost use Rattle.x64_syntax.specs.Instructions.{operands, is_scale, constant_fits, scale_fits, without_rsp, form_of, index_registers, source_registers, read_places, written_places, is_among};
+ghost use Rattle.x64_syntax.specs.Instructions.{in_range, no_constant, is_short, constant_fits, count_fits, displacement_fits, is_scale, has_scale, accesses, addresses, names_rsp, halves_differ, form_of, source_memory, address_places, source_places, cond_flags, alu_reads, carry_flag, read_places, alu_writes, one_writes, shift_writes, written_places, all_flags, is_among};
 
-use crate::instructions::Ins;
+use crate::conditions::Cond;
+use crate::instructions::{AluOp, CarryOp, Ins, OneOp, ShiftOp};
 use crate::operands::{Mem, Opr};
 use crate::place_set::PlaceSet;
 use crate::places::{FlagName, Place, Reg};
@@ -15,101 +16,214 @@ use crate::places::{FlagName, Place, Reg};
 /// Why an instruction isn't one of the machine's.
 #[derive(Clone, Copy, Debug, PartialEq, Eq, Drop)]
 pub enum FormFault {
-    /// A constant is outside what the form takes.
+    /// A constant is outside what the form takes, or the form takes none.
     Immediate,
+    /// A shift isn't by 1 to 63, or a word of an xmm register is neither 0 nor 1.
+    Count,
     /// A scale is none of 1, 2, 4 and 8.
     Scale,
     /// `rsp` is an operand, a base or an index.
     Register,
+    /// Both halves of a product go to one register.
+    SameHighLow,
 }
 
-/// An operand as its form takes it.
-#[derive(Clone, Copy, Debug, PartialEq, Eq)]
-pub(crate) enum Operand {
-    General(Reg),
-    /// A register, memory, or a constant from the first number to the second.
-    Source(i64, i64, Opr),
-}
-
-fn operands(ins: &Ins) -> [Operand; 2]
-    ensures { result ≡ operands ins.now }
+// The source is a register, memory, or a constant from `low` to `high`.
+fn in_range(low: i64, high: i64, s: &Opr) -> bool
+    ensures { result ≡ in_range low high s.now }
 {
-    match ins {
-        Ins::Mov { d, s } => [
-            Operand::General(*d),
-            Operand::Source(i64::MIN, i64::MAX, *s),
-        ],
-        Ins::Alu { d, s, .. } => [
-            Operand::General(*d),
-            Operand::Source(-(1 << 31), (1 << 31) - 1, *s),
-        ],
+    match s {
+        Opr::Imm(n) => low <= *n && *n <= high,
+        Opr::R(_) | Opr::M(_) => true,
     }
 }
 
-fn constant_fits(operand: Operand) -> bool
-    ensures { result ≡ constant_fits operand }
+fn no_constant(s: &Opr) -> bool
+    ensures { result ≡ no_constant s.now }
 {
-    match operand {
-        Operand::Source(low, high, Opr::Imm(n)) => low <= n && n <= high,
+    !matches!(s, Opr::Imm(_))
+}
+
+/// Whether a source is a register, memory, or a constant of 32 bits with sign.
+pub(crate) fn is_short(s: &Opr) -> bool
+    ensures { result ≡ is_short s.now }
+{
+    in_range(-(1 << 31), (1 << 31) - 1, s)
+}
+
+fn constant_fits(ins: &Ins) -> bool
+    ensures { result ≡ constant_fits ins.now }
+{
+    match ins {
+        Ins::Mov { s, .. } => in_range(i64::MIN, i64::MAX, s),
+        Ins::Alu { s, .. } => is_short(s),
+        Ins::Imul { s, .. } | Ins::Mul { s } | Ins::Mulx { s, .. } | Ins::Carry { s, .. } => {
+            no_constant(s)
+        }
         _ => true,
     }
 }
 
-fn scale_fits(operand: Operand) -> bool
-    ensures { result ≡ scale_fits operand }
+// Any number of a byte's field is one.
+fn is_byte(_n: u8) -> bool
+    ensures { result ≡ nat_le _n 255 }
 {
-    match operand {
-        Operand::Source(_, _, Opr::M(m)) => match m.index {
+    true
+}
+
+fn count_fits(ins: &Ins) -> bool
+    ensures { result ≡ count_fits ins.now }
+{
+    match ins {
+        Ins::Shift { n, .. } => 1 <= *n && *n <= 63,
+        Ins::XIns { n, .. } | Ins::XExt { n, .. } => *n <= 1,
+        Ins::XShuf { n, .. } | Ins::XShift { n, .. } => is_byte(*n),
+        _ => true,
+    }
+}
+
+fn source_memory(s: &Opr) -> Option<Mem>
+    ensures { result ≡ source_memory s.now }
+{
+    match s {
+        Opr::M(m) => Some(*m),
+        Opr::R(_) | Opr::Imm(_) => None,
+    }
+}
+
+/// The memory operand that an instruction loads from or stores to. `Lea` does neither.
+pub(crate) fn accesses(ins: &Ins) -> Option<Mem>
+    ensures { result ≡ accesses ins.now }
+{
+    match ins {
+        Ins::Mov { s, .. }
+        | Ins::Alu { s, .. }
+        | Ins::Imul { s, .. }
+        | Ins::Mul { s }
+        | Ins::Mulx { s, .. }
+        | Ins::Carry { s, .. } => source_memory(s),
+        Ins::Store { m, .. } | Ins::XLoad { m, .. } | Ins::XStore { m, .. } => Some(*m),
+        _ => None,
+    }
+}
+
+fn addresses(ins: &Ins) -> Option<Mem>
+    ensures { result ≡ addresses ins.now }
+{
+    match ins {
+        Ins::Lea { m, .. } => Some(*m),
+        _ => accesses(ins),
+    }
+}
+
+// Any displacement of an address fits.
+fn displacement_fits(m: Option<Mem>)
+    ensures { displacement_fits m ≡ true }
+{}
+
+fn has_scale(m: Option<Mem>) -> bool
+    ensures { result ≡ has_scale m }
+{
+    match m {
+        Some(m) => match m.index {
             Some((_, scale)) => matches!(scale, 1 | 2 | 4 | 8),
             None => true,
         },
+        None => true,
+    }
+}
+
+fn halves_differ(ins: &Ins) -> bool
+    ensures { result ≡ halves_differ ins.now }
+{
+    match ins {
+        Ins::Mulx { hi, lo, .. } => hi != lo,
         _ => true,
     }
 }
 
-fn without_rsp(operand: Operand) -> bool
-    ensures { result ≡ without_rsp operand }
-{
-    match operand {
-        Operand::General(reg) | Operand::Source(_, _, Opr::R(reg)) => reg != Reg::Rsp,
-        Operand::Source(_, _, Opr::Imm(_)) => true,
-        Operand::Source(_, _, Opr::M(m)) => match m.index {
-            Some((index, _)) => m.base != Reg::Rsp && index != Reg::Rsp,
-            None => m.base != Reg::Rsp,
-        },
-    }
-}
-
-/// Whether an instruction is one of the machine's: its constants are those that its form takes, then its scales are
-/// scales, and then `rsp` is no operand. See docs/MACHINE.md.
+/// Whether an instruction is one of the machine's: its constants and counts are those that its form takes, its scale is
+/// one, `rsp` is no operand, and a product's halves go to two registers, in this order. See docs/MACHINE.md.
 pub fn ins_ok(ins: &Ins) -> Result<(), FormFault>
     ensures { result ≡ form_of ins.now }
 {
-    let [first, second] = operands(ins);
-    if !(constant_fits(first) && constant_fits(second)) {
+    displacement_fits(addresses(ins));
+    if !constant_fits(ins) {
         return Err(FormFault::Immediate);
     }
-    if !(scale_fits(first) && scale_fits(second)) {
+    if !count_fits(ins) {
+        return Err(FormFault::Count);
+    }
+    if !has_scale(addresses(ins)) {
         return Err(FormFault::Scale);
     }
-    if without_rsp(first) && without_rsp(second) {
+    let rsp = Place::Reg(Reg::Rsp);
+    if reads_of(ins).contains(rsp) || writes_of(ins).contains(rsp) {
+        return Err(FormFault::Register);
+    }
+    if halves_differ(ins) {
         Ok(())
     } else {
-        Err(FormFault::Register)
+        Err(FormFault::SameHighLow)
+    }
+}
+
+// The set with the registers of an address.
+fn with_address(set: PlaceSet, m: &Mem) -> PlaceSet
+    ensures { (p : APlace) → in_set result p ≡ (is_among (address_places m.now) p || in_set set p) }
+{
+    match m.index {
+        Some((index, _)) => set.with(Place::Reg(index)).with(Place::Reg(m.base)),
+        None => set.with(Place::Reg(m.base)),
     }
 }
 
 // The set with the registers of a source.
 fn with_source(set: PlaceSet, s: &Opr) -> PlaceSet
-    ensures { (p : APlace) → in_set result p ≡ (is_among (map place.Reg (source_registers s.now)) p || in_set set p) }
+    ensures { (p : APlace) → in_set result p ≡ (is_among (source_places s.now) p || in_set set p) }
 {
     match s {
         Opr::R(reg) => set.with(Place::Reg(*reg)),
         Opr::Imm(_) => set,
-        Opr::M(m) => match m.index {
-            Some((index, _)) => set.with(Place::Reg(index)).with(Place::Reg(m.base)),
-            None => set.with(Place::Reg(m.base)),
-        },
+        Opr::M(m) => with_address(set, m),
+    }
+}
+
+// The set of one place.
+fn only(place: Place) -> PlaceSet
+    ensures { (p : APlace) → in_set result p ≡ is_among (place ∷ []) p }
+{
+    PlaceSet::EMPTY.with(place)
+}
+
+fn cond_flags(c: Cond) -> PlaceSet
+    ensures { (p : APlace) → in_set result p ≡ is_among (map place.Flag (cond_flags c)) p }
+{
+    let cf = only(Place::Flag(FlagName::Cf));
+    let zf = only(Place::Flag(FlagName::Zf));
+    match c {
+        Cond::E | Cond::Ne => zf,
+        Cond::B | Cond::Ae => cf,
+        Cond::Be | Cond::A => zf.with(Place::Flag(FlagName::Cf)),
+    }
+}
+
+const fn carry_flag(op: CarryOp) -> FlagName
+    ensures { result ≡ carry_flag op }
+{
+    match op {
+        CarryOp::Adcx => FlagName::Cf,
+        CarryOp::Adox => FlagName::Of,
+    }
+}
+// What a sum or difference reads beside its destination.
+fn alu_sources(op: AluOp, s: &Opr) -> PlaceSet
+    ensures { (p : APlace) → in_set result p ≡ is_among (alu_reads op ++ source_places s.now) p }
+{
+    let sources = with_source(PlaceSet::EMPTY, s);
+    match op {
+        AluOp::Adc | AluOp::Sbb => sources.with(Place::Flag(FlagName::Cf)),
+        _ => sources,
     }
 }
 
@@ -117,9 +231,65 @@ fn with_source(set: PlaceSet, s: &Opr) -> PlaceSet
 pub fn reads_of(ins: &Ins) -> PlaceSet
     ensures { (p : APlace) → in_set result p ≡ is_among (read_places ins.now) p }
 {
+    let none = PlaceSet::EMPTY;
     match ins {
-        Ins::Mov { s, .. } => with_source(PlaceSet::EMPTY, s),
-        Ins::Alu { d, s, .. } => with_source(PlaceSet::EMPTY, s).with(Place::Reg(*d)),
+        Ins::Mov { s, .. } => with_source(none, s),
+        Ins::Store { m, s } => with_address(none, m).with(Place::Reg(*s)),
+        Ins::Lea { m, .. } | Ins::XLoad { m, .. } => with_address(none, m),
+        Ins::Cmov { c, d, s } => cond_flags(*c).with(Place::Reg(*d)).with(Place::Reg(*s)),
+        Ins::Push { s } | Ins::XMovq { s, .. } => only(Place::Reg(*s)),
+        Ins::Pop { .. } => none,
+        Ins::Alu { op, d, s } => alu_sources(*op, s).with(Place::Reg(*d)),
+        Ins::One { d, .. } | Ins::Shift { d, .. } => only(Place::Reg(*d)),
+        Ins::Imul { d, s } => with_source(none, s).with(Place::Reg(*d)),
+        Ins::Mul { s } => with_source(none, s).with(Place::Reg(Reg::Rax)),
+        Ins::Mulx { s, .. } => with_source(none, s).with(Place::Reg(Reg::Rdx)),
+        Ins::Carry { op, d, s } => with_source(none, s)
+            .with(Place::Flag(carry_flag(*op)))
+            .with(Place::Reg(*d)),
+        Ins::XStore { m, s } => with_address(none, m).with(Place::Xmm(*s)),
+        Ins::XMov { s, .. } | Ins::XShuf { s, .. } | Ins::XExt { s, .. } => only(Place::Xmm(*s)),
+        Ins::XBin { d, s, .. } => only(Place::Xmm(*s)).with(Place::Xmm(*d)),
+        Ins::XShift { d, .. } => only(Place::Xmm(*d)),
+        Ins::XIns { d, s, .. } => only(Place::Reg(*s)).with(Place::Xmm(*d)),
+    }
+}
+
+fn all_flags() -> PlaceSet
+    ensures { (p : APlace) → in_set result p ≡ is_among all_flags p }
+{
+    only(Place::Flag(FlagName::Of))
+        .with(Place::Flag(FlagName::Sf))
+        .with(Place::Flag(FlagName::Zf))
+        .with(Place::Flag(FlagName::Cf))
+}
+
+fn alu_writes(op: AluOp, d: Reg) -> PlaceSet
+    ensures { (p : APlace) → in_set result p ≡ is_among (alu_writes op d) p }
+{
+    match op {
+        AluOp::Cmp => all_flags(),
+        _ => all_flags().with(Place::Reg(d)),
+    }
+}
+
+fn one_writes(op: OneOp, d: Reg) -> PlaceSet
+    ensures { (p : APlace) → in_set result p ≡ is_among (one_writes op d) p }
+{
+    match op {
+        OneOp::Neg => all_flags().with(Place::Reg(d)),
+        OneOp::Not => only(Place::Reg(d)),
+    }
+}
+
+fn shift_writes(op: ShiftOp, d: Reg) -> PlaceSet
+    ensures { (p : APlace) → in_set result p ≡ is_among (shift_writes op d) p }
+{
+    match op {
+        ShiftOp::Shl | ShiftOp::Shr => all_flags().with(Place::Reg(d)),
+        ShiftOp::Rol | ShiftOp::Ror => only(Place::Flag(FlagName::Of))
+            .with(Place::Flag(FlagName::Cf))
+            .with(Place::Reg(d)),
     }
 }
 
@@ -128,149 +298,27 @@ pub fn writes_of(ins: &Ins) -> PlaceSet
     ensures { (p : APlace) → in_set result p ≡ is_among (written_places ins.now) p }
 {
     match ins {
-        Ins::Mov { d, .. } => PlaceSet::EMPTY.with(Place::Reg(*d)),
-        Ins::Alu { d, .. } => PlaceSet::EMPTY
-            .with(Place::Flag(FlagName::Of))
-            .with(Place::Flag(FlagName::Sf))
-            .with(Place::Flag(FlagName::Zf))
-            .with(Place::Flag(FlagName::Cf))
-            .with(Place::Reg(*d)),
-    }
-}
-
-#[cfg(test)]
-mod tests {
-    use super::*;
-    use crate::instructions::AluOp;
-
-    const fn memory(base: Reg, index: Option<(Reg, u8)>) -> Opr {
-        Opr::M(Mem {
-            base,
-            index,
-            disp: -8,
-        })
-    }
-
-    fn add(d: Reg, s: Opr) -> Ins {
-        Ins::Alu {
-            op: AluOp::Add,
-            d,
-            s,
-        }
-    }
-
-    #[test]
-    fn tells_the_first_fault_of_a_form(rt: HostRuntime) {
-        let r8 = Opr::R(Reg::R8);
-        for (ins, want) in [
-            (Ins::Mov { d: Reg::Rax, s: r8 }, Ok(())),
-            (
-                Ins::Mov {
-                    d: Reg::Rax,
-                    s: Opr::Imm(i64::MIN),
-                },
-                Ok(()),
-            ),
-            (
-                Ins::Mov {
-                    d: Reg::Rax,
-                    s: Opr::Imm(i64::MAX),
-                },
-                Ok(()),
-            ),
-            (
-                Ins::Mov {
-                    d: Reg::Rsp,
-                    s: Opr::Imm(1),
-                },
-                Err(FormFault::Register),
-            ),
-            (
-                Ins::Mov {
-                    d: Reg::Rax,
-                    s: Opr::R(Reg::Rsp),
-                },
-                Err(FormFault::Register),
-            ),
-            (add(Reg::Rax, r8), Ok(())),
-            (add(Reg::R15, Opr::Imm(-2147483648)), Ok(())),
-            (add(Reg::R15, Opr::Imm(2147483647)), Ok(())),
-            (
-                add(Reg::Rax, Opr::Imm(-2147483649)),
-                Err(FormFault::Immediate),
-            ),
-            (
-                add(Reg::Rsp, Opr::Imm(2147483648)),
-                Err(FormFault::Immediate),
-            ),
-            (add(Reg::Rsp, r8), Err(FormFault::Register)),
-            (add(Reg::Rax, memory(Reg::Rsi, None)), Ok(())),
-            (add(Reg::Rax, memory(Reg::Rsi, Some((Reg::Rcx, 8)))), Ok(())),
-            (
-                add(Reg::Rsp, memory(Reg::Rsp, Some((Reg::Rsp, 3)))),
-                Err(FormFault::Scale),
-            ),
-            (
-                add(Reg::Rax, memory(Reg::Rsi, Some((Reg::Rcx, 0)))),
-                Err(FormFault::Scale),
-            ),
-            (
-                add(Reg::Rax, memory(Reg::Rsp, None)),
-                Err(FormFault::Register),
-            ),
-            (
-                add(Reg::Rax, memory(Reg::Rsi, Some((Reg::Rsp, 1)))),
-                Err(FormFault::Register),
-            ),
-        ] {
-            assert_eq!(rt; ins_ok(&ins), want);
-        }
-    }
-
-    #[test]
-    fn tells_what_is_read_and_written(rt: HostRuntime) {
-        let set = |regs: u16, flags: u8| PlaceSet {
-            regs,
-            xmms: 0,
-            flags,
-        };
-        let rbx = Opr::R(Reg::Rbx);
-        let indexed = memory(Reg::Rcx, Some((Reg::R15, 2)));
-        for (ins, reads, writes) in [
-            (
-                Ins::Mov {
-                    d: Reg::Rax,
-                    s: rbx,
-                },
-                set(2, 0),
-                set(1, 0),
-            ),
-            (
-                Ins::Mov {
-                    d: Reg::Rax,
-                    s: Opr::Imm(0),
-                },
-                set(0, 0),
-                set(1, 0),
-            ),
-            (
-                Ins::Mov {
-                    d: Reg::Rax,
-                    s: indexed,
-                },
-                set(0x8004, 0),
-                set(1, 0),
-            ),
-            (add(Reg::Rax, rbx), set(3, 0), set(1, 15)),
-            (add(Reg::Rax, Opr::Imm(7)), set(1, 0), set(1, 15)),
-            (
-                add(Reg::Rdx, memory(Reg::Rsi, None)),
-                set(0x18, 0),
-                set(8, 15),
-            ),
-        ] {
-            assert_eq!(rt; reads_of(&ins), reads);
-            assert_eq!(rt; writes_of(&ins), writes);
-        }
+        Ins::Store { .. } | Ins::XStore { .. } | Ins::Push { .. } => PlaceSet::EMPTY,
+        Ins::Mov { d, .. }
+        | Ins::Lea { d, .. }
+        | Ins::Cmov { d, .. }
+        | Ins::Pop { d }
+        | Ins::XExt { d, .. } => only(Place::Reg(*d)),
+        Ins::Alu { op, d, .. } => alu_writes(*op, *d),
+        Ins::One { op, d } => one_writes(*op, *d),
+        Ins::Shift { op, d, .. } => shift_writes(*op, *d),
+        Ins::Imul { d, .. } => all_flags().with(Place::Reg(*d)),
+        Ins::Mul { .. } => all_flags()
+            .with(Place::Reg(Reg::Rdx))
+            .with(Place::Reg(Reg::Rax)),
+        Ins::Mulx { hi, lo, .. } => only(Place::Reg(*lo)).with(Place::Reg(*hi)),
+        Ins::Carry { op, d, .. } => only(Place::Flag(carry_flag(*op))).with(Place::Reg(*d)),
+        Ins::XMov { d, .. }
+        | Ins::XLoad { d, .. }
+        | Ins::XBin { d, .. }
+        | Ins::XShuf { d, .. }
+        | Ins::XShift { d, .. }
+        | Ins::XIns { d, .. }
+        | Ins::XMovq { d, .. } => only(Place::Xmm(*d)),
     }
 }

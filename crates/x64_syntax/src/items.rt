@@ -1,18 +1,8 @@
 // Flat code.
 
+use crate::conditions::Cond;
 use crate::instructions::Ins;
 use crate::text::Text;
-
-/// What a conditional jump tests, without sign: equal, not equal, below, below or equal, above, above or equal.
-#[derive(Clone, Copy, Debug, PartialEq, Eq)]
-pub enum Cond {
-    E,
-    Ne,
-    B,
-    Be,
-    A,
-    Ae,
-}
 
 /// One item of flat code.
 #[derive(Debug, Drop, PartialEq, Eq)]

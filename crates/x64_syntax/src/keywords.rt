@@ -1,7 +1,9 @@
 // The words with a meaning in the grammar.
 
-ghost use Rattle.std.specs.Prelude.{◌≡◌, map};
-ghost use Rattle.x64_syntax.specs.Words.{keyword_in, keyword_of};
+ghost use Rattle.std.specs.Prelude.{◌≡◌};
+ghost use Rattle.x64_syntax.specs.Words.{keyword_of};
+
+use crate::names::named;
 
 /// A word with a meaning in the grammar.
 #[derive(Clone, Copy, Debug, PartialEq, Eq)]
@@ -73,18 +75,7 @@ pub const KEYWORDS: [(&str, Keyword); 28] = [
 pub fn keyword_named(name: &[u8]) -> Option<Keyword>
     ensures { result ≡ keyword_of name.now }
 {
-    keyword_among(&KEYWORDS, name)
-}
-
-fn keyword_among(keywords: &[(&str, Keyword)], name: &[u8]) -> Option<Keyword>
-    ensures { result ≡ keyword_in (map (λ w. (w.0.now, w.1)) keywords.now) name.now }
-{
-    for (word, keyword) in keywords {
-        if word.as_bytes() == name {
-            return Some(*keyword);
-        }
-    }
-    None
+    named(&KEYWORDS, name)
 }
 
 #[cfg(test)]

@@ -2,26 +2,38 @@
 //! things. Everything above speaks of code in these types.
 #![tactic(auto)]
 
+mod built_in;
+mod code;
+mod conditions;
 mod forms;
 mod instructions;
 mod items;
 mod keywords;
 mod names;
 mod operands;
+mod operations;
 mod place_set;
 mod places;
 mod program;
+#[cfg(test)]
+mod tests;
 mod text;
+mod type_words;
 mod words;
 
-pub use forms::{FormFault, ins_ok};
-pub use instructions::{AluOp, Ins};
-pub use items::{Cond, Item};
+pub use built_in::{BuiltIn, built_in_named};
+pub use code::{Code, Node, code_ok};
+pub use conditions::{Cmp, Cond};
+pub use forms::{FormFault, ins_ok, reads_of, writes_of};
+pub use instructions::{AluOp, CarryOp, Ins, OneOp, ShiftOp, XBinOp, XShiftOp};
+pub use items::Item;
 pub use keywords::{KEYWORDS, Keyword, keyword_named};
 pub use names::{flag_named, reg_named, xmm_named};
 pub use operands::{Mem, Opr};
+pub use operations::{Operation, operation_named};
 pub use place_set::PlaceSet;
 pub use places::{FlagName, Place, Reg, Xmm};
 pub use program::program_ok;
 pub use text::Text;
+pub use type_words::{TypeWord, type_word_named};
 pub use words::{is_digit, is_export_name, is_name, is_name_part, is_reserved};

@@ -1,6 +1,6 @@
 // Whole programs of flat code.
 
-ghost use Rattle.std.specs.Prelude.{◌≡◌, ◌≤◌, true, length};
+ghost use Rattle.std.specs.Prelude.{◌≡◌, ◌≤◌, ◌^◌, nat_lt, true, length};
 ghost use Rattle.std.specs.List.{list_all};
 ghost use Rattle.x64_syntax.specs.Programs.{begins_with_entry, has_entry, entries_differ, is_item, labels_from, piece, jumps_stay, program_ok};
 ghost use Rattle.x64_syntax.specs.LabelCount.{label_count};
@@ -44,13 +44,21 @@ fn entries_differ(items: &[Item]) -> bool
     true
 }
 
+/// Any number of a label's or a block's field is one.
+pub(crate) fn is_number(_label: u32) -> bool
+    ensures { result ≡ nat_lt _label (2 ^ 32) }
+{
+    true
+}
+
 fn is_item(item: &Item) -> bool
     ensures { result ≡ is_item item.now }
 {
     match item {
         Item::Ins(ins) => ins_ok(ins).is_ok(),
         Item::Entry(name) => is_export_name(name.as_bytes()),
-        Item::Label(_) | Item::Jmp(_) | Item::Jcc(_, _) | Item::Ret => true,
+        Item::Label(label) | Item::Jmp(label) | Item::Jcc(_, label) => is_number(*label),
+        Item::Ret => true,
     }
 }
 
@@ -138,8 +146,8 @@ pub fn program_ok(items: &[Item]) -> bool
 #[cfg(test)]
 mod tests {
     use super::*;
+    use crate::conditions::Cond;
     use crate::instructions::{AluOp, Ins};
-    use crate::items::Cond;
     use crate::operands::Opr;
     use crate::places::Reg;
     use crate::text::Text;

@@ -1,10 +1,15 @@
 // The words that a source may not use as names of its own.
 
-ghost use Rattle.std.specs.Prelude.{◌≡◌};
+ghost use Rattle.std.specs.Prelude.{◌≡◌, ◌||◌};
 ghost use Rattle.std.specs.List.{list_all, list_any};
-ghost use Rattle.x64_syntax.specs.Words.{same_text, among, among_keywords, is_digit_byte, is_letter_byte, is_name_byte, is_name_text, is_numbered_word, keywords, kinds, places, built_in, instructions, mnemonics, assembler_words, is_reserved_word, is_reserved_name, is_refused_export, is_export_text};
+ghost use Rattle.x64_syntax.specs.Places.{reg_name, xmm_name, flag_name};
+ghost use Rattle.x64_syntax.specs.Words.{same_text, among, among_rows, is_place_word, is_digit_byte, is_letter_byte, is_name_byte, is_name_text, is_numbered_word, keywords, type_words, built_in, instructions, spellings, other_mnemonics, is_mnemonic_word, assembler_words, is_reserved_word, is_reserved_name, is_refused_export, is_export_text};
 
-use crate::keywords::{KEYWORDS, Keyword};
+use crate::built_in::BUILT_IN;
+use crate::keywords::KEYWORDS;
+use crate::operations::{INSTRUCTIONS, Operation};
+use crate::places::{FlagName, Reg, Xmm};
+use crate::type_words::TYPE_WORDS;
 
 /// Whether upper and lower case are told apart.
 #[derive(Clone, Copy, Debug, PartialEq, Eq)]
@@ -13,155 +18,9 @@ pub(crate) enum Case {
     Ignored,
 }
 
-/// The sorts, the kinds of operands and the calling conventions.
-pub const KINDS: [&str; 10] = [
-    "int", "bool", "w64", "w128", "arr", "reg", "opr", "xmm", "sysv", "win",
-];
-
-/// The registers and flags.
-pub const PLACES: [&str; 37] = [
-    "rax", "rbx", "rcx", "rdx", "rsi", "rdi", "rbp", "rsp", "r8", "r9", "r10", "r11", "r12", "r13",
-    "r14", "r15", "xmm0", "xmm1", "xmm2", "xmm3", "xmm4", "xmm5", "xmm6", "xmm7", "xmm8", "xmm9",
-    "xmm10", "xmm11", "xmm12", "xmm13", "xmm14", "xmm15", "cf", "zf", "sf", "of", "flags",
-];
-
-/// The operators that are written as calls.
-pub const BUILT_IN: [&str; 31] = [
-    "div", "mod", "int", "word", "ite", "and", "or", "xor", "not", "shl", "shr", "rol", "ror",
-    "mulhi", "pair", "hi", "lo", "paddd", "pshufb", "pshufd", "pslld", "psrld", "pslldq", "psrldq",
-    "len", "put", "forall", "old", "defined", "slot", "base",
-];
-
-/// The instructions of the source language.
-pub const INSTRUCTIONS: [&str; 47] = [
-    "Mov64",
-    "Store64",
-    "Lea64",
-    "Cmove",
-    "Cmovne",
-    "Cmovb",
-    "Cmovbe",
-    "Cmova",
-    "Cmovae",
-    "Push64",
-    "Pop64",
-    "Add64",
-    "Adc64",
-    "Sub64",
-    "Sbb64",
-    "Cmp64",
-    "And64",
-    "Or64",
-    "Xor64",
-    "Neg64",
-    "Not64",
-    "Shl64",
-    "Shr64",
-    "Rol64",
-    "Ror64",
-    "Imul64",
-    "Mul64",
-    "Mulx64",
-    "Adcx64",
-    "Adox64",
-    "Movdqu",
-    "Pxor",
-    "Pand",
-    "Por",
-    "Paddd",
-    "Pshufb",
-    "Paddq",
-    "Punpcklqdq",
-    "Punpckhqdq",
-    "Pshufd",
-    "Pslld",
-    "Psrld",
-    "Pslldq",
-    "Psrldq",
-    "Pinsrq",
-    "Pextrq",
-    "Movq",
-];
-
-/// The mnemonics of both assembler syntaxes.
-pub const MNEMONICS: [&str; 77] = [
-    "movq",
-    "movabsq",
-    "leaq",
-    "cmove",
-    "cmovne",
-    "cmovb",
-    "cmovbe",
-    "cmova",
-    "cmovae",
-    "pushq",
-    "popq",
-    "addq",
-    "adcq",
-    "subq",
-    "sbbq",
-    "cmpq",
-    "andq",
-    "orq",
-    "xorq",
-    "negq",
-    "notq",
-    "shlq",
-    "shrq",
-    "rolq",
-    "rorq",
-    "imulq",
-    "mulq",
-    "mulxq",
-    "adcxq",
-    "adoxq",
-    "movdqu",
-    "pxor",
-    "pand",
-    "por",
-    "paddd",
-    "paddq",
-    "pshufb",
-    "punpcklqdq",
-    "punpckhqdq",
-    "pshufd",
-    "pslld",
-    "psrld",
-    "pslldq",
-    "psrldq",
-    "pinsrq",
-    "pextrq",
-    "jmp",
-    "je",
-    "jne",
-    "jb",
-    "jbe",
-    "ja",
-    "jae",
-    "ret",
-    "mov",
-    "lea",
-    "push",
-    "pop",
-    "add",
-    "adc",
-    "sub",
-    "sbb",
-    "cmp",
-    "and",
-    "or",
-    "xor",
-    "neg",
-    "not",
-    "shl",
-    "shr",
-    "rol",
-    "ror",
-    "imul",
-    "mul",
-    "mulx",
-    "adcx",
-    "adox",
+/// The mnemonics that no instruction of the table has: of a move of a constant, jumps, and the end.
+pub const OTHER_MNEMONICS: [&str; 9] = [
+    "movabsq", "jmp", "je", "jne", "jb", "jbe", "ja", "jae", "ret",
 ];
 
 /// Further words that an assembler may read otherwise.
@@ -220,7 +79,7 @@ fn is_refused(name: &[u8]) -> bool
 fn is_reserved_in(case: Case, name: &[u8]) -> bool
     ensures { result ≡ is_reserved_word case name.now }
 {
-    if is_keyword(case, name) || is_kind(case, name) {
+    if is_keyword(case, name) || is_type_word(case, name) {
         return true;
     }
     if is_place(case, name) || is_built_in(case, name) {
@@ -231,52 +90,90 @@ fn is_reserved_in(case: Case, name: &[u8]) -> bool
 
 #[tactic(auto, unfolding(crate::specs::Words::keywords))]
 fn is_keyword(case: Case, name: &[u8]) -> bool
-    ensures { result ≡ among_keywords case keywords name.now }
+    ensures { result ≡ among_rows case keywords name.now }
 {
-    is_among_keywords(&KEYWORDS, case, name)
+    is_row(&KEYWORDS, case, name)
 }
 
-fn is_among_keywords(words: &[(&str, Keyword)], case: Case, name: &[u8]) -> bool
-    ensures { result ≡ list_any (λ word. same_text case word.0.now name.now) words.now }
+#[tactic(auto, unfolding(crate::specs::Words::type_words))]
+fn is_type_word(case: Case, name: &[u8]) -> bool
+    ensures { result ≡ among_rows case type_words name.now }
 {
-    words
-        .iter()
-        .any(|word| is_same(case, word.0.as_bytes(), name))
-}
-
-#[tactic(auto, unfolding(crate::specs::Words::kinds))]
-fn is_kind(case: Case, name: &[u8]) -> bool
-    ensures { result ≡ among case kinds name.now }
-{
-    is_among(&KINDS, case, name)
-}
-
-#[tactic(auto, unfolding(crate::specs::Words::places))]
-fn is_place(case: Case, name: &[u8]) -> bool
-    ensures { result ≡ among case places name.now }
-{
-    is_among(&PLACES, case, name)
+    is_row(&TYPE_WORDS, case, name)
 }
 
 #[tactic(auto, unfolding(crate::specs::Words::built_in))]
 fn is_built_in(case: Case, name: &[u8]) -> bool
-    ensures { result ≡ among case built_in name.now }
+    ensures { result ≡ among_rows case built_in name.now }
 {
-    is_among(&BUILT_IN, case, name)
+    is_row(&BUILT_IN, case, name)
 }
 
 #[tactic(auto, unfolding(crate::specs::Words::instructions))]
 fn is_instruction(case: Case, name: &[u8]) -> bool
-    ensures { result ≡ among case instructions name.now }
+    ensures { result ≡ among_rows case instructions name.now }
 {
-    is_among(&INSTRUCTIONS, case, name)
+    is_written(&INSTRUCTIONS, case, name)
 }
 
-#[tactic(auto, unfolding(crate::specs::Words::mnemonics))]
-fn is_mnemonic(case: Case, name: &[u8]) -> bool
-    ensures { result ≡ among case mnemonics name.now }
+fn is_written(rows: &[(&str, &str, &str, Operation)], case: Case, name: &[u8]) -> bool
+    ensures { result ≡ list_any (λ row. same_text case row.0.now name.now) rows.now }
 {
-    is_among(&MNEMONICS, case, name)
+    rows.iter().any(|row| is_same(case, row.0.as_bytes(), name))
+}
+
+fn is_spelled(rows: &[(&str, &str, &str, Operation)], case: Case, name: &[u8]) -> bool
+    ensures { result ≡ list_any (λ row. same_text case row.1.now name.now || same_text case row.2.now name.now) rows.now }
+{
+    rows.iter().any(|row| {
+        is_same(case, row.1.as_bytes(), name) || is_same(case, row.2.as_bytes(), name)
+    })
+}
+
+// Whether a row of a table has the name.
+fn is_row<T>(rows: &[(&str, T)], case: Case, name: &[u8]) -> bool
+    ensures { result ≡ list_any (λ row. same_text case row.0.now name.now) rows.now }
+{
+    rows.iter().any(|row| is_same(case, row.0.as_bytes(), name))
+}
+
+// A register, an xmm register, a flag, or all flags.
+fn is_place(case: Case, name: &[u8]) -> bool
+    ensures { result ≡ is_place_word case name.now }
+{
+    if is_reg(&Reg::ALL, case, name) || is_xmm(&Xmm::ALL, case, name) {
+        return true;
+    }
+    is_flag(&FlagName::ALL, case, name) || is_same(case, b"flags", name)
+}
+
+fn is_reg(regs: &[Reg], case: Case, name: &[u8]) -> bool
+    ensures { result ≡ list_any (λ r. same_text case (reg_name r) name.now) regs.now }
+{
+    regs.iter()
+        .any(|reg| is_same(case, reg.name().as_bytes(), name))
+}
+
+fn is_xmm(xmms: &[Xmm], case: Case, name: &[u8]) -> bool
+    ensures { result ≡ list_any (λ x. same_text case (xmm_name x) name.now) xmms.now }
+{
+    xmms.iter()
+        .any(|xmm| is_same(case, xmm.name().as_bytes(), name))
+}
+
+fn is_flag(flags: &[FlagName], case: Case, name: &[u8]) -> bool
+    ensures { result ≡ list_any (λ f. same_text case (flag_name f) name.now) flags.now }
+{
+    flags
+        .iter()
+        .any(|flag| is_same(case, flag.name().as_bytes(), name))
+}
+
+#[tactic(auto, unfolding(crate::specs::Words::spellings, crate::specs::Words::other_mnemonics))]
+fn is_mnemonic(case: Case, name: &[u8]) -> bool
+    ensures { result ≡ is_mnemonic_word case name.now }
+{
+    is_spelled(&INSTRUCTIONS, case, name) || is_among(&OTHER_MNEMONICS, case, name)
 }
 
 #[tactic(auto, unfolding(crate::specs::Words::assembler_words))]

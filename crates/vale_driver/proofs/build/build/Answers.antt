@@ -7,7 +7,7 @@ use Rattle.vale_driver.specs.Outcome.{step_refusal}
 use Rattle.vale_driver.specs.Phases.{texts}
 use Rattle.vale_driver.proofs.Files.{stops_also}
 use Rattle.vale_driver.proofs.Refused.{sources_refused, certificate_refused, step_refused}
-use Rattle.vale_driver.proofs.Built.{built_from}
+use Rattle.vale_driver.proofs.Built.{all_have_conditions, built_from}
 use Rattle.vale_driver.proofs.build.build.Goals as goal
 
 pub returns-in_err-program-clause-stops : goal.returns-in_err-program-clause-stops
@@ -35,3 +35,8 @@ returns-clause-built g c =
     let closes = ap (ring_closes (condition_hyps c.in_ok-program.program) (condition_goal c.in_ok-program.program)) (sym c.deref.ensures.value) ∙ sym c.in_ok-closes.ensures ∙ c.if-not-branch.false in
     let text = c.in_ok-print.ensures ∙ ap text_of (c.deref-2.ensures.value ∙ c.in_ok-items.ensures) in
     built_from (g.S.Store.tells c.args.store.now) _ c.args.words.cert.now (texts c.args.words.files.now) c.in_ok-program.program c.in_ok-steps.steps.items _ c.in_ok-program.ensures.fits c.in_ok-program.ensures.found (c.in_ok-program.ensures.same_files c.args.words.cert.now) proves closes text
+
+pub closes-requires-clause-built : goal.closes-requires-clause-built
+closes-requires-clause-built g c =
+    let p = c.in_ok-program.program in
+    all_have_conditions p.registers p.instructions c.in_ok-program.ensures.fits.each

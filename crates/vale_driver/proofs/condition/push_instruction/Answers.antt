@@ -9,10 +9,10 @@ use Rattle.vale_driver.proofs.Present.{pushed_move, addition_built}
 use Rattle.vale_driver.proofs.condition.push_instruction.Goals as goal
 
 pub invariant_of-written : goal.invariant_of-written
-invariant_of-written c = record { register_fits = c.requires (Reg c.in-Mov.d); flags_fit = c.requires (Flag Cf) }
+invariant_of-written c = record { register_fits = c.requires.fits (Reg c.in-Mov.d); flags_fit = c.requires.fits (Flag Cf) }
 
 pub invariant_of-written-in-Alu-Add-default-default : goal.invariant_of-written-in-Alu-Add-default-default
-invariant_of-written-in-Alu-Add-default-default c = record { register_fits = c.requires (Reg c.in-Alu-Add-default-default.d); flags_fit = c.requires (Flag Cf) }
+invariant_of-written-in-Alu-Add-default-default c = record { register_fits = c.requires.fits (Reg c.in-Alu-Add-default-default.d); flags_fit = c.requires.fits (Flag Cf) }
 
 pub returns-in_ok-push-in-Mov : goal.returns-in_ok-push-in-Mov
 returns-in_ok-push-in-Mov c =
@@ -23,5 +23,6 @@ returns-in_ok-push-in-Mov c =
 pub returns-in-Alu-Add-default-default : goal.returns-in-Alu-Add-default-default
 returns-in-Alu-Add-default-default c =
     let i = c.in-Alu-Add-default-default in
+    let built = rw i.is at c.requires.built in
     rw i.is
-    (subst (λ l. OnOk c.push_addition.result (trees c.push_addition.new.hyps ≡ trees c.args.hyps.now ++ l)) (addition_built (present c.args.versions.now) i.op i.d i.s) c.push_addition.ensures)
+    (subst (λ l. OnOk c.push_addition.result (trees c.push_addition.new.hyps ≡ trees c.args.hyps.now ++ l)) (addition_built (present c.args.versions.now) i.op i.d i.s built) c.push_addition.ensures)

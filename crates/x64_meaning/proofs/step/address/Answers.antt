@@ -1,9 +1,8 @@
 use Rattle.std.proofs.Common.{◌≡◌, ◌*◌, ◌%◌, get_or, sym, ap, ◌∙◌}
 use Rattle.std.proofs.Math.Nat.{mul_comm}
 use Rattle.x64_syntax.specs.Places.{reg_number}
-use Rattle.term_core.specs.Value.{T}
-use Rattle.x64_meaning.specs.Table.{word_of}
-use Rattle.x64_meaning.proofs.Stepping.{addressed}
+use Rattle.term_core.specs.Value.{T, word_of}
+use Rattle.x64_meaning.proofs.Numbers.{addressed}
 use Rattle.x64_meaning.proofs.step.address.Goals as goal
 use Rattle.x64_meaning.proofs.step.address.Goals.{in-Some, in-None}
 

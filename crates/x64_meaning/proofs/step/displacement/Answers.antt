@@ -1,7 +1,7 @@
 use Rattle.std.proofs.Common.{◌≡◌, SFits, w32, w64, rules, ◌∙◌, ap}
 use Rattle.std.proofs.lemmas.Int.{to_z-of_z}
-use Rattle.x64_meaning.specs.Table.{word_of}
-use Rattle.x64_meaning.proofs.Stepping.{word_of_cast}
+use Rattle.term_core.specs.Value.{word_of}
+use Rattle.x64_meaning.proofs.Numbers.{word_of_cast}
 use Rattle.x64_meaning.proofs.step.displacement.Goals as goal
 
 pub returns : goal.returns

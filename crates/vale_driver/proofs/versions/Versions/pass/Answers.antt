@@ -7,11 +7,14 @@ use Rattle.vale_driver.proofs.versions.Versions.pass.Goals as goal
 
 pub overflow_add-self : goal.overflow_add-self
 overflow_add-self c =
-    let same : c.write-in-Alu.new.self.flags ≡ present c.args.self.now (Flag Cf) = ap (λ v. v (Flag Cf)) c.write-in-Alu.ensures in
-    omega (arith, same, c.requires (Flag Cf))
+    let same : c.write-in-Alu-Add-default-default.new.self.flags ≡ present c.args.self.now (Flag Cf) = ap (λ v. v (Flag Cf)) c.write-in-Alu-Add-default-default.ensures in
+    omega (arith, same, c.requires.fits (Flag Cf))
 
 pub returns-in-Mov : goal.returns-in-Mov
 returns-in-Mov c = rw c.in-Mov.is (passed_move (present c.args.self.now) (present c.write.new.self) c.in-Mov.d c.in-Mov.s c.write.ensures)
 
-pub returns-in-Alu : goal.returns-in-Alu
-returns-in-Alu c = rw c.in-Alu.is (passed_addition c.write-in-Alu.new.self.registers c.write-in-Alu.new.self.flags (present c.args.self.now) c.in-Alu.op c.in-Alu.d c.in-Alu.s c.write-in-Alu.ensures)
+pub returns-in-Alu-Add-default-default : goal.returns-in-Alu-Add-default-default
+returns-in-Alu-Add-default-default c =
+    let i = c.in-Alu-Add-default-default in
+    let built = rw i.is at c.requires.built in
+    rw i.is (passed_addition c.write-in-Alu-Add-default-default.new.self.registers c.write-in-Alu-Add-default-default.new.self.flags (present c.args.self.now) i.op i.d i.s built c.write-in-Alu-Add-default-default.ensures)

@@ -1,0 +1,139 @@
+// How items are listed.
+
+ghost use Rattle.std.specs.Prelude.{◌≡◌, ◌++◌, true, IfOk, OnOk, decimal};
+ghost use Rattle.x64_syntax.specs.declared.items.Item.TheVariants as item;
+ghost use Rattle.asm_lines.specs.Parts.{some_of};
+ghost use Rattle.asm_lines.specs.Listing.{index_text, memory_text, part_text, separator, parts_text, ins_listing, cond_name, listing};
+
+use crate::parts::{Part, operation, parts};
+use itoa::{Buffer, Integer};
+use std::alloc::{AllocError as NoMemory, Global};
+use x64_syntax::{Cond, Ins, Item, Mem, Reg, Text};
+
+/// An item as it is listed: `Entry NAME`, `Label n`, `Jmp n`, `Jcc CC n`, `Ret`, or an instruction as a source has it,
+/// with memory as `(base, disp)` or `(base, index, scale, disp)`. The constant of `Mov64` has no sign.
+pub fn list_item(alloc: Global, item: &Item) -> Result<Text, NoMemory>
+    ensures { IfOk result (λ t. t ≡ listing item.now) }
+{
+    let mut out = Vec::new(alloc);
+    match item {
+        Item::Ins(ins) => push_ins(&mut out, ins)?,
+        Item::Label(label) => push_numbered(&mut out, "Label ", *label)?,
+        Item::Jmp(label) => push_numbered(&mut out, "Jmp ", *label)?,
+        Item::Jcc(cond, label) => push_branch(&mut out, *cond, *label)?,
+        Item::Ret => push(&mut out, "Ret")?,
+        Item::Entry(name) => {
+            push(&mut out, "Entry ")?;
+            out.extend_from_slice(name.as_bytes())?;
+        }
+    }
+    Ok(Text::from_vec(out))
+}
+
+fn push(out: &mut Vec<u8>, text: &str) -> Result<(), NoMemory>
+    ensures { OnOk result (out.new.items ≡ out.old.items ++ text.now) }
+{
+    out.extend_from_slice(text.as_bytes())
+}
+
+fn push_number<I: Integer>(out: &mut Vec<u8>, value: I) -> Result<(), NoMemory>
+    ensures { OnOk result (out.new.items ≡ out.old.items ++ I.text value) }
+{
+    push(out, Buffer::new().format(value))
+}
+
+fn push_numbered(out: &mut Vec<u8>, word: &str, label: u32) -> Result<(), NoMemory>
+    ensures { OnOk result (out.new.items ≡ out.old.items ++ word.now ++ decimal label) }
+{
+    push(out, word)?;
+    push_number(out, label)
+}
+
+fn cond_name(cond: Cond) -> &'static str
+    ensures { result.now ≡ cond_name cond }
+{
+    match cond {
+        Cond::E => "e",
+        Cond::Ne => "ne",
+        Cond::B => "b",
+        Cond::Be => "be",
+        Cond::A => "a",
+        Cond::Ae => "ae",
+    }
+}
+
+fn push_branch(out: &mut Vec<u8>, cond: Cond, label: u32) -> Result<(), NoMemory>
+    ensures { OnOk result (out.new.items ≡ out.old.items ++ listing (item.Jcc cond label)) }
+{
+    push(out, "Jcc ")?;
+    push(out, cond_name(cond))?;
+    push_numbered(out, " ", label)
+}
+
+fn push_index(out: &mut Vec<u8>, index: Option<(Reg, u8)>) -> Result<(), NoMemory>
+    ensures { OnOk result (out.new.items ≡ out.old.items ++ index_text index) }
+{
+    match index {
+        Some((reg, scale)) => {
+            push(out, ", ")?;
+            push(out, reg.name())?;
+            push(out, ", ")?;
+            push_number(out, scale)
+        }
+        None => Ok(()),
+    }
+}
+
+fn push_memory(out: &mut Vec<u8>, m: Mem) -> Result<(), NoMemory>
+    ensures { OnOk result (out.new.items ≡ out.old.items ++ memory_text m) }
+{
+    push(out, "(")?;
+    push(out, m.base.name())?;
+    push_index(out, m.index)?;
+    push(out, ", ")?;
+    push_number(out, m.disp)?;
+    push(out, ")")
+}
+
+fn push_part(out: &mut Vec<u8>, part: Part) -> Result<(), NoMemory>
+    ensures { OnOk result (out.new.items ≡ out.old.items ++ part_text part) }
+{
+    match part {
+        Part::General(reg) => push(out, reg.name()),
+        Part::Wide(xmm) => push(out, xmm.name()),
+        Part::Signed(n) => push_number(out, n),
+        Part::Unsigned(n) => push_number(out, n),
+        Part::Memory(m) => push_memory(out, m),
+    }
+}
+
+fn push_separator(out: &mut Vec<u8>, is_first: bool) -> Result<(), NoMemory>
+    ensures { OnOk result (out.new.items ≡ out.old.items ++ separator is_first) }
+{
+    if is_first { Ok(()) } else { push(out, ", ") }
+}
+
+// The operands that are there, with commas between them.
+#[tactic(auto, unfolding(crate::specs::Listing::parts_text))]
+fn push_parts(out: &mut Vec<u8>, parts: &[Option<Part>]) -> Result<(), NoMemory>
+    ensures { OnOk result (out.new.items ≡ out.old.items ++ parts_text true (some_of parts.now)) }
+{
+    let mut is_first = true;
+    for part in parts {
+        if let Some(part) = part {
+            push_separator(out, is_first)?;
+            push_part(out, *part)?;
+            is_first = false;
+        }
+    }
+    Ok(())
+}
+
+fn push_ins(out: &mut Vec<u8>, ins: &Ins) -> Result<(), NoMemory>
+    ensures { OnOk result (out.new.items ≡ out.old.items ++ ins_listing ins.now) }
+{
+    push(out, operation(ins).name())?;
+    push(out, "(")?;
+    push_parts(out, &parts(ins))?;
+    push(out, ")")
+}
