@@ -1,2 +1,3 @@
-pub mod Parts
+pub mod Operands
+pub mod Lines
 pub mod Listing

@@ -1,9 +1,14 @@
 //! Lines of code as text: the operands of each instruction, and how items are listed.
 #![tactic(auto)]
 
+mod forms;
+mod lines;
 mod listing;
-mod parts;
+
 #[cfg(test)]
 mod tests;
 
+pub use forms::{Part, Parts, instruction, operands, operation};
+pub use lines::{Syntax, cond_name, cond_named, mnemonic, push, push_number};
 pub use listing::list_item;
+

@@ -1,12 +1,12 @@
 // How items are listed.
 
-ghost use Rattle.std.specs.Prelude.{◌≡◌, ◌++◌, true, IfOk, OnOk, decimal};
+ghost use Rattle.std.specs.Prelude.{◌≡◌, ◌++◌, IfOk, OnOk, decimal};
 ghost use Rattle.x64_syntax.specs.declared.items.Item.TheVariants as item;
-ghost use Rattle.asm_lines.specs.Parts.{some_of};
-ghost use Rattle.asm_lines.specs.Listing.{index_text, memory_text, part_text, separator, parts_text, ins_listing, cond_name, listing};
+ghost use Rattle.asm_lines.specs.declared.forms.Parts.TheVariants as shape;
+ghost use Rattle.asm_lines.specs.Listing.{index_text, memory_text, part_text, operands_text, ins_listing, listing};
 
-use crate::parts::{Part, operation, parts};
-use itoa::{Buffer, Integer};
+use crate::lines::{cond_name, push, push_number};
+use crate::forms::{Part, Parts, operands, operation};
 use std::alloc::{AllocError as NoMemory, Global};
 use x64_syntax::{Cond, Ins, Item, Mem, Reg, Text};
 
@@ -30,36 +30,11 @@ pub fn list_item(alloc: Global, item: &Item) -> Result<Text, NoMemory>
     Ok(Text::from_vec(out))
 }
 
-fn push(out: &mut Vec<u8>, text: &str) -> Result<(), NoMemory>
-    ensures { OnOk result (out.new.items ≡ out.old.items ++ text.now) }
-{
-    out.extend_from_slice(text.as_bytes())
-}
-
-fn push_number<I: Integer>(out: &mut Vec<u8>, value: I) -> Result<(), NoMemory>
-    ensures { OnOk result (out.new.items ≡ out.old.items ++ I.text value) }
-{
-    push(out, Buffer::new().format(value))
-}
-
 fn push_numbered(out: &mut Vec<u8>, word: &str, label: u32) -> Result<(), NoMemory>
     ensures { OnOk result (out.new.items ≡ out.old.items ++ word.now ++ decimal label) }
 {
     push(out, word)?;
     push_number(out, label)
-}
-
-fn cond_name(cond: Cond) -> &'static str
-    ensures { result.now ≡ cond_name cond }
-{
-    match cond {
-        Cond::E => "e",
-        Cond::Ne => "ne",
-        Cond::B => "b",
-        Cond::Be => "be",
-        Cond::A => "a",
-        Cond::Ae => "ae",
-    }
 }
 
 fn push_branch(out: &mut Vec<u8>, cond: Cond, label: u32) -> Result<(), NoMemory>
@@ -101,32 +76,31 @@ fn push_part(out: &mut Vec<u8>, part: Part) -> Result<(), NoMemory>
     match part {
         Part::General(reg) => push(out, reg.name()),
         Part::Wide(xmm) => push(out, xmm.name()),
-        Part::Signed(n) => push_number(out, n),
-        Part::Unsigned(n) => push_number(out, n),
+        Part::Number(n) => push_number(out, n),
         Part::Memory(m) => push_memory(out, m),
     }
 }
 
-fn push_separator(out: &mut Vec<u8>, is_first: bool) -> Result<(), NoMemory>
-    ensures { OnOk result (out.new.items ≡ out.old.items ++ separator is_first) }
+fn push_operands(out: &mut Vec<u8>, operands: Parts) -> Result<(), NoMemory>
+    ensures { OnOk result (out.new.items ≡ out.old.items ++ operands_text operands) }
 {
-    if is_first { Ok(()) } else { push(out, ", ") }
-}
-
-// The operands that are there, with commas between them.
-#[tactic(auto, unfolding(crate::specs::Listing::parts_text))]
-fn push_parts(out: &mut Vec<u8>, parts: &[Option<Part>]) -> Result<(), NoMemory>
-    ensures { OnOk result (out.new.items ≡ out.old.items ++ parts_text true (some_of parts.now)) }
-{
-    let mut is_first = true;
-    for part in parts {
-        if let Some(part) = part {
-            push_separator(out, is_first)?;
-            push_part(out, *part)?;
-            is_first = false;
+    match operands {
+        Parts::One(a) => push_part(out, a),
+        Parts::Two(a, b) => push_two(out, a, b),
+        Parts::Three(a, b, c) => {
+            push_two(out, a, b)?;
+            push(out, ", ")?;
+            push_part(out, c)
         }
     }
-    Ok(())
+}
+
+fn push_two(out: &mut Vec<u8>, a: Part, b: Part) -> Result<(), NoMemory>
+    ensures { OnOk result (out.new.items ≡ out.old.items ++ operands_text (shape.Two a b)) }
+{
+    push_part(out, a)?;
+    push(out, ", ")?;
+    push_part(out, b)
 }
 
 fn push_ins(out: &mut Vec<u8>, ins: &Ins) -> Result<(), NoMemory>
@@ -134,6 +108,6 @@ fn push_ins(out: &mut Vec<u8>, ins: &Ins) -> Result<(), NoMemory>
 {
     push(out, operation(ins).name())?;
     push(out, "(")?;
-    push_parts(out, &parts(ins))?;
+    push_operands(out, operands(ins))?;
     push(out, ")")
 }

@@ -4,7 +4,7 @@ ghost use Rattle.std.specs.Prelude.{◌≡◌, ◌<◌, ℕ, length, slice_index
 ghost use Rattle.std.specs.Int.{to_le_bytes, w64};
 ghost use Rattle.x64_syntax.specs.declared.instructions.Ins.TheVariants as ins;
 ghost use Rattle.x64_syntax.specs.declared.places.Place.TheVariants as place;
-ghost use Rattle.x64_syntax.specs.Instructions.{form_of, carry_flag, read_places, is_among};
+ghost use Rattle.x64_syntax.specs.Instructions.{form_of, read_places, is_among};
 ghost use Rattle.x64_blocks.specs.Memory.{store};
 ghost use Rattle.term_core.specs.Value.{T, word_of};
 ghost use Rattle.x64_meaning.specs.State.{flag, load};
@@ -16,7 +16,7 @@ use crate::arithmetic::{
 };
 use crate::laws::forms_as_in_the_table;
 use crate::machine::{Fault, Flag, Machine, Obs, Seen};
-use x64_syntax::{CarryOp, Cond, FlagName, Ins, Mem, Opr, Place, Reg, reads_of};
+use x64_syntax::{Cond, FlagName, Ins, Mem, Opr, Place, Reg, reads_of};
 
 fn displacement(mem: &Mem) -> u64
     ensures { result ≡ word_of mem.now.disp }
@@ -114,17 +114,8 @@ fn compute(m: &mut Machine, ins: &Ins, word: u64)
         Ins::Imul { d, .. } => multiply(m, *d, word),
         Ins::Mul { .. } => multiply_wide(m, word),
         Ins::Mulx { hi, lo, .. } => multiply_apart(m, *hi, *lo, word),
-        Ins::Carry { op, d, .. } => add_with(m, carry_flag(*op), *d, word),
+        Ins::Carry { op, d, .. } => add_with(m, op.flag(), *d, word),
         _ => {}
-    }
-}
-
-fn carry_flag(op: CarryOp) -> FlagName
-    ensures { result ≡ carry_flag op }
-{
-    match op {
-        CarryOp::Adcx => FlagName::Cf,
-        CarryOp::Adox => FlagName::Of,
     }
 }
 

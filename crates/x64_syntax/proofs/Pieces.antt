@@ -1,13 +1,13 @@
 -- The labels of a piece are a range where labels stand in order.
 use Rattle.std.proofs.Common.{◌≡◌, ℕ, ◌+◌, ◌<◌, ◌≤◌, Bool, true, false, List, [], ◌∷◌, refl, sym, ap, ◌∙◌, subst, arith, leb, length, suc, drop, get_or, ◌⊎◌, inl, inr}
-use Rattle.std.specs.Prelude.{◌&&◌, ◌||◌, ◌==◌}
+use Rattle.std.specs.Prelude.{◌&&◌, ◌||◌, ◌==◌, Some, if◌then◌else◌}
 use Rattle.std.proofs.lemmas.Bool.{and_parts, and_from, eqb-true, eqb-false, leb-true, leb-false}
 use Rattle.std.proofs.Math.Seq.{drop-cons}
 use Rattle.x64_syntax.specs.declared.instructions.Ins.{Ins}
 use Rattle.x64_syntax.specs.declared.conditions.Cond.{Cond}
 use Rattle.x64_syntax.specs.declared.items.Item.{Item}
 use Rattle.x64_syntax.specs.declared.items.Item.TheVariants as item
-use Rattle.x64_syntax.specs.Programs.{labels_from, piece, has_label, jumps_stay}
+use Rattle.x64_syntax.specs.Programs.{labels_from, piece, has_label, stray_from, stray_jump}
 use Rattle.x64_syntax.specs.LabelCount.{label_count}
 
 -- the items from the next entry on
@@ -111,36 +111,36 @@ has_within k l (item.Jmp m ∷ is) h le lt = has_within k l is h le lt
 has_within k l (item.Jcc c m ∷ is) h le lt = has_within k l is h le lt
 has_within k l (item.Ret ∷ is) h le lt = has_within k l is h le lt
 
--- What the loop over jumps keeps: the labels of the piece at hand are those from `low` up to `high`, and labels go on
--- from there behind it.
-pub record Within (low high : ℕ) (rest all : List Item) : Type 0 where
+-- What the loop over jumps keeps behind k items: the labels of the piece at hand are those from `low` up to `high`, and
+-- labels go on from there behind it.
+pub record Within (k low high : ℕ) (rest all : List Item) : Type 0 where
   pub at_hand : List Item
-  pub stays : jumps_stay at_hand rest ≡ jumps_stay (piece all) all
+  pub stray : stray_from k at_hand rest ≡ stray_jump all
   pub ordered : labels_from low at_hand ≡ true
   pub high_is : high ≡ low + label_count at_hand
   pub next : labels_from high (behind rest) ≡ true
   pub total : high + label_count (behind rest) ≡ label_count all
 
-pub at_first : (all : List Item) (high : ℕ) → labels_from 0 all ≡ true → high ≡ label_count (piece all) → Within 0 high all all
+pub at_first : (all : List Item) (high : ℕ) → labels_from 0 all ≡ true → high ≡ label_count (piece all) → Within 0 0 high all all
 at_first all high h e = record {
   at_hand = piece all;
-  stays = refl;
+  stray = refl;
   ordered = in_piece 0 all h;
   high_is = omega (arith, e);
   next = let same : 0 + label_count (piece all) ≡ high = omega (arith, e) in ap (λ n. labels_from n (behind all)) (sym same) ∙ go_on 0 all h;
   total = let c = counts all in omega (arith, c, e);
 }
 
-module _ (low high : ℕ) (x : Item) (front rest all : List Item) (split : front ≡ x ∷ rest) (w : Within low high front all) where
-  at_item : Within low high (x ∷ rest) all
-  at_item = subst (λ l. Within low high l all) split w
+module _ (k low high : ℕ) (x : Item) (front rest all : List Item) (split : front ≡ x ∷ rest) (w : Within k low high front all) where
+  at_item : Within k low high (x ∷ rest) all
+  at_item = subst (λ l. Within k low high l all) split w
 
-  pub at_entry : (name : List ℕ) (next : ℕ) → x ≡ item.Entry name → next ≡ high + label_count (piece rest) → Within high next rest all
+  pub at_entry : (name : List ℕ) (next : ℕ) → x ≡ item.Entry name → next ≡ high + label_count (piece rest) → Within (k + 1) high next rest all
   at_entry name next is e =
-      let v = subst (λ y. Within low high (y ∷ rest) all) is at_item in
+      let v = subst (λ y. Within k low high (y ∷ rest) all) is at_item in
       record {
         at_hand = piece rest;
-        stays = v.stays;
+        stray = v.stray;
         ordered = in_piece high rest v.next;
         high_is = e;
         next = ap (λ n. labels_from n (behind rest)) e ∙ go_on high rest v.next;
@@ -149,44 +149,44 @@ module _ (low high : ℕ) (x : Item) (front rest all : List Item) (split : front
 
   pub entry_fits : (name : List ℕ) → x ≡ item.Entry name → high + label_count (piece rest) ≤ length all
   entry_fits name is =
-      let v = subst (λ y. Within low high (y ∷ rest) all) is at_item in
+      let v = subst (λ y. Within k low high (y ∷ rest) all) is at_item in
       let c = counts rest in
       let t = v.total in
       let f = few all in
       omega (arith, c, t, f)
 
-  pub at_other : ((i : Ins) × (x ≡ item.Ins i)) ⊎ (((l : ℕ) × (x ≡ item.Label l)) ⊎ (x ≡ item.Ret)) → Within low high rest all
+  pub at_other : ((i : Ins) × (x ≡ item.Ins i)) ⊎ (((l : ℕ) × (x ≡ item.Label l)) ⊎ (x ≡ item.Ret)) → Within (k + 1) low high rest all
   at_other (inl (i, is)) =
-      let v = subst (λ y. Within low high (y ∷ rest) all) is at_item in
-      record { at_hand = v.at_hand; stays = v.stays; ordered = v.ordered; high_is = v.high_is; next = v.next; total = v.total }
+      let v = subst (λ y. Within k low high (y ∷ rest) all) is at_item in
+      record { at_hand = v.at_hand; stray = v.stray; ordered = v.ordered; high_is = v.high_is; next = v.next; total = v.total }
   at_other (inr (inl (l, is))) =
-      let v = subst (λ y. Within low high (y ∷ rest) all) is at_item in
-      record { at_hand = v.at_hand; stays = v.stays; ordered = v.ordered; high_is = v.high_is; next = v.next; total = v.total }
+      let v = subst (λ y. Within k low high (y ∷ rest) all) is at_item in
+      record { at_hand = v.at_hand; stray = v.stray; ordered = v.ordered; high_is = v.high_is; next = v.next; total = v.total }
   at_other (inr (inr is)) =
-      let v = subst (λ y. Within low high (y ∷ rest) all) is at_item in
-      record { at_hand = v.at_hand; stays = v.stays; ordered = v.ordered; high_is = v.high_is; next = v.next; total = v.total }
+      let v = subst (λ y. Within k low high (y ∷ rest) all) is at_item in
+      record { at_hand = v.at_hand; stray = v.stray; ordered = v.ordered; high_is = v.high_is; next = v.next; total = v.total }
 
-  -- what a jump leaves
-  leaves : (l : ℕ) (p : List Item) → low ≤ l → l < high → labels_from low p ≡ true → high ≡ low + label_count p → (has_label l p && jumps_stay p rest) ≡ jumps_stay (piece all) all → jumps_stay p rest ≡ jumps_stay (piece all) all
+  -- what a jump with its label in the piece at hand leaves
+  leaves : (l : ℕ) (p : List Item) → low ≤ l → l < high → labels_from low p ≡ true → high ≡ low + label_count p → (if has_label l p then stray_from (k + 1) p rest else Some k) ≡ stray_jump all → stray_from (k + 1) p rest ≡ stray_jump all
   leaves l p le lt ordered e h =
       let has = has_within low l p ordered le (omega (arith, lt, e)) in
-      ap (λ b. b && jumps_stay p rest) (sym has) ∙ h
+      ap (λ (b : Bool). if b then stray_from (k + 1) p rest else Some k) (sym has) ∙ h
 
-  pub at_jump : (l : ℕ) → low ≤ l → l < high → (x ≡ item.Jmp l) ⊎ ((c : Cond) × (x ≡ item.Jcc c l)) → Within low high rest all
+  pub at_jump : (l : ℕ) → low ≤ l → l < high → (x ≡ item.Jmp l) ⊎ ((c : Cond) × (x ≡ item.Jcc c l)) → Within (k + 1) low high rest all
   at_jump l le lt (inl is) =
-      let v = subst (λ y. Within low high (y ∷ rest) all) is at_item in
-      record { at_hand = v.at_hand; stays = leaves l v.at_hand le lt v.ordered v.high_is v.stays; ordered = v.ordered; high_is = v.high_is; next = v.next; total = v.total }
+      let v = subst (λ y. Within k low high (y ∷ rest) all) is at_item in
+      record { at_hand = v.at_hand; stray = leaves l v.at_hand le lt v.ordered v.high_is v.stray; ordered = v.ordered; high_is = v.high_is; next = v.next; total = v.total }
   at_jump l le lt (inr (c, is)) =
-      let v = subst (λ y. Within low high (y ∷ rest) all) is at_item in
-      record { at_hand = v.at_hand; stays = leaves l v.at_hand le lt v.ordered v.high_is v.stays; ordered = v.ordered; high_is = v.high_is; next = v.next; total = v.total }
+      let v = subst (λ y. Within k low high (y ∷ rest) all) is at_item in
+      record { at_hand = v.at_hand; stray = leaves l v.at_hand le lt v.ordered v.high_is v.stray; ordered = v.ordered; high_is = v.high_is; next = v.next; total = v.total }
 
-  astray : (l : ℕ) (p : List Item) → (l < low) ⊎ (high ≤ l) → labels_from low p ≡ true → high ≡ low + label_count p → (has_label l p && jumps_stay p rest) ≡ jumps_stay (piece all) all → false ≡ jumps_stay (piece all) all
-  astray l p (inl lt) ordered e h = ap (λ b. b && jumps_stay p rest) (sym (has_low low l p ordered lt)) ∙ h
-  astray l p (inr le) ordered e h = ap (λ b. b && jumps_stay p rest) (sym (has_high low l p ordered (omega (arith, le, e)))) ∙ h
+  astray : (l : ℕ) (p : List Item) → (l < low) ⊎ (high ≤ l) → labels_from low p ≡ true → high ≡ low + label_count p → (if has_label l p then stray_from (k + 1) p rest else Some k) ≡ stray_jump all → Some k ≡ stray_jump all
+  astray l p (inl lt) ordered e h = ap (λ (b : Bool). if b then stray_from (k + 1) p rest else Some k) (sym (has_low low l p ordered lt)) ∙ h
+  astray l p (inr le) ordered e h = ap (λ (b : Bool). if b then stray_from (k + 1) p rest else Some k) (sym (has_high low l p ordered (omega (arith, le, e)))) ∙ h
 
-  pub at_stray : (l : ℕ) → (l < low) ⊎ (high ≤ l) → (x ≡ item.Jmp l) ⊎ ((c : Cond) × (x ≡ item.Jcc c l)) → false ≡ jumps_stay (piece all) all
-  at_stray l out (inl is) = let v = subst (λ y. Within low high (y ∷ rest) all) is at_item in astray l v.at_hand out v.ordered v.high_is v.stays
-  at_stray l out (inr (c, is)) = let v = subst (λ y. Within low high (y ∷ rest) all) is at_item in astray l v.at_hand out v.ordered v.high_is v.stays
+  pub at_stray : (l : ℕ) → (l < low) ⊎ (high ≤ l) → (x ≡ item.Jmp l) ⊎ ((c : Cond) × (x ≡ item.Jcc c l)) → Some k ≡ stray_jump all
+  at_stray l out (inl is) = let v = subst (λ y. Within k low high (y ∷ rest) all) is at_item in astray l v.at_hand out v.ordered v.high_is v.stray
+  at_stray l out (inr (c, is)) = let v = subst (λ y. Within k low high (y ∷ rest) all) is at_item in astray l v.at_hand out v.ordered v.high_is v.stray
 
 -- the item of a turn, in front of the rest
 pub turn : (is : List Item) (k : ℕ) (x : Item) → k < length is → x ≡ get_or is k x → drop k is ≡ x ∷ drop (k + 1) is

@@ -219,7 +219,8 @@ abbrev pub halves_differ : Ins → Bool
 halves_differ (Mulx high low s) = not (reg_eq high low)
 halves_differ _ = true
 
--- why an instruction isn't one of the machine's: constants and displacements first, then counts, scales, registers, and the halves
+-- why an instruction isn't one of the machine's: constants and displacements first, then counts, scales, registers, and
+-- the halves
 abbrev pub form_of : Ins → Result (Unit {0}) FormFault
 form_of i =
     if not (constant_fits i && displacement_fits (addresses i)) then Err Immediate

@@ -1,5 +1,5 @@
 -- Programs: flat code in pieces, each under the name of an export.
-use Rattle.std.specs.Prelude.{ℕ, ◌+◌, ◌^◌, nat_lt, Bool, true, false, not, ◌&&◌, ◌||◌, ◌==◌, is_ok, List, [], ◌∷◌}
+use Rattle.std.specs.Prelude.{ℕ, ◌+◌, ◌^◌, nat_lt, Bool, true, false, not, ◌&&◌, ◌||◌, ◌==◌, is_ok, List, [], ◌∷◌, Option, Some, None, is_none, if◌then◌else◌}
 use Rattle.std.specs.List.{list_all}
 use Rattle.std.specs.Str.{bytes_eq}
 use Rattle.x64_syntax.specs.declared.items.Item.{Item}
@@ -51,15 +51,22 @@ has_label l [] = false
 has_label l (item.Label m ∷ is) = (l == m) || has_label l is
 has_label l (_ ∷ is) = has_label l is
 
--- each jump's label is in its own piece; the first argument is the piece at hand
-abbrev pub jumps_stay : List Item → List Item → Bool
-jumps_stay p [] = true
-jumps_stay p (item.Entry name ∷ is) = jumps_stay (piece is) is
-jumps_stay p (item.Jmp l ∷ is) = has_label l p && jumps_stay p is
-jumps_stay p (item.Jcc c l ∷ is) = has_label l p && jumps_stay p is
-jumps_stay p (_ ∷ is) = jumps_stay p is
+-- The place of the first jump whose label isn't in its own piece. Before the items are so many others, and the piece at
+-- hand.
+abbrev pub stray_from : ℕ → List Item → List Item → Option ℕ
+stray_from k p [] = None
+stray_from k p (item.Entry name ∷ is) = stray_from (k + 1) (piece is) is
+stray_from k p (item.Jmp l ∷ is) = if has_label l p then stray_from (k + 1) p is else Some k
+stray_from k p (item.Jcc c l ∷ is) = if has_label l p then stray_from (k + 1) p is else Some k
+stray_from k p (_ ∷ is) = stray_from (k + 1) p is
+
+abbrev pub stray_jump : List Item → Option ℕ
+stray_jump is = stray_from 0 (piece is) is
+
+-- the items are a program but for jumps that stray: they begin with an entry, the names of entries are told apart, each is
+-- an item, and labels are in order
+abbrev pub is_ordered : List Item → Bool
+is_ordered is = (begins_with_entry is && entries_differ is) && (list_all is_item is && labels_from 0 is)
 
 abbrev pub program_ok : List Item → Bool
-program_ok is =
-    (begins_with_entry is && entries_differ is)
-    && (list_all is_item is && (labels_from 0 is && jumps_stay (piece is) is))
+program_ok is = is_ordered is && is_none (stray_jump is)

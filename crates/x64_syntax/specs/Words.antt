@@ -12,6 +12,8 @@ use Rattle.x64_syntax.specs.declared.built_in.BuiltIn.{BuiltIn}
 use Rattle.x64_syntax.specs.declared.built_in.TheConstants.{BUILT_IN}
 use Rattle.x64_syntax.specs.declared.operations.Operation.{Operation}
 use Rattle.x64_syntax.specs.declared.operations.Operation.TheVariants as op
+use Rattle.x64_syntax.specs.declared.operations.Column.{Column}
+use Rattle.x64_syntax.specs.declared.operations.Column.TheVariants.{Source, Gas, Masm}
 use Rattle.x64_syntax.specs.OperatorNumbers.{cond_number, alu_number, one_number, shift_number, carry_number, xbin_number, xshift_number}
 use Rattle.x64_syntax.specs.declared.operations.TheConstants.{INSTRUCTIONS}
 use Rattle.x64_syntax.specs.declared.words.TheConstants.{OTHER_MNEMONICS, ASSEMBLER_WORDS, EXPORT_NAME_LIMIT}
@@ -68,6 +70,16 @@ built_in = map (λ r. (r.0.now, r.1)) BUILT_IN
 unfoldable pub instructions : List (List ℕ × Operation)
 instructions = map (λ r. (r.0.now, r.3)) INSTRUCTIONS
 
+-- the instructions by their mnemonics in GAS syntax
+unfoldable pub gas_instructions : List (List ℕ × Operation)
+gas_instructions = map (λ r. (r.1.now, r.3)) INSTRUCTIONS
+
+-- the name that a row has in a column
+abbrev pub in_column : Column → List ℕ → List ℕ → List ℕ → List ℕ
+in_column Source name gas masm = name
+in_column Gas name gas masm = gas
+in_column Masm name gas masm = masm
+
 -- the keyword that is written so
 abbrev pub keyword_of : List ℕ → Option Keyword
 keyword_of name = named keywords name
@@ -80,6 +92,10 @@ built_in_of name = named built_in name
 
 abbrev pub operation_of : List ℕ → Option Operation
 operation_of name = named instructions name
+
+-- the first of this mnemonic
+abbrev pub gas_operation_of : List ℕ → Option Operation
+gas_operation_of mnemonic = named gas_instructions mnemonic
 
 -- an operation's row in the table of instructions, and the names in it
 abbrev pub operation_number : Operation → ℕ

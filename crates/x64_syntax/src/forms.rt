@@ -5,10 +5,10 @@ ghost use Rattle.x64_syntax.specs.declared.places.Place.{Place as APlace};
 ghost use Rattle.x64_syntax.specs.declared.places.Place.TheVariants as place;
 ghost use Rattle.x64_syntax.specs.Places.{place_eq};
 ghost use Rattle.x64_syntax.specs.PlaceSets.{in_set};
-ghost use Rattle.x64_syntax.specs.Instructions.{in_range, no_constant, is_short, constant_fits, count_fits, displacement_fits, is_scale, has_scale, accesses, addresses, names_rsp, halves_differ, form_of, source_memory, address_places, source_places, cond_flags, alu_reads, carry_flag, read_places, alu_writes, one_writes, shift_writes, written_places, all_flags, is_among};
+ghost use Rattle.x64_syntax.specs.Instructions.{in_range, no_constant, is_short, constant_fits, count_fits, displacement_fits, is_scale, has_scale, accesses, addresses, names_rsp, halves_differ, form_of, source_memory, address_places, source_places, cond_flags, alu_reads, read_places, alu_writes, one_writes, shift_writes, written_places, all_flags, is_among};
 
 use crate::conditions::Cond;
-use crate::instructions::{AluOp, CarryOp, Ins, OneOp, ShiftOp};
+use crate::instructions::{AluOp, Ins, OneOp, ShiftOp};
 use crate::operands::{Mem, Opr};
 use crate::place_set::PlaceSet;
 use crate::places::{FlagName, Place, Reg};
@@ -208,14 +208,6 @@ fn cond_flags(c: Cond) -> PlaceSet
     }
 }
 
-const fn carry_flag(op: CarryOp) -> FlagName
-    ensures { result ≡ carry_flag op }
-{
-    match op {
-        CarryOp::Adcx => FlagName::Cf,
-        CarryOp::Adox => FlagName::Of,
-    }
-}
 // What a sum or difference reads beside its destination.
 fn alu_sources(op: AluOp, s: &Opr) -> PlaceSet
     ensures { (p : APlace) → in_set result p ≡ is_among (alu_reads op ++ source_places s.now) p }
@@ -245,7 +237,7 @@ pub fn reads_of(ins: &Ins) -> PlaceSet
         Ins::Mul { s } => with_source(none, s).with(Place::Reg(Reg::Rax)),
         Ins::Mulx { s, .. } => with_source(none, s).with(Place::Reg(Reg::Rdx)),
         Ins::Carry { op, d, s } => with_source(none, s)
-            .with(Place::Flag(carry_flag(*op)))
+            .with(Place::Flag(op.flag()))
             .with(Place::Reg(*d)),
         Ins::XStore { m, s } => with_address(none, m).with(Place::Xmm(*s)),
         Ins::XMov { s, .. } | Ins::XShuf { s, .. } | Ins::XExt { s, .. } => only(Place::Xmm(*s)),
@@ -312,7 +304,7 @@ pub fn writes_of(ins: &Ins) -> PlaceSet
             .with(Place::Reg(Reg::Rdx))
             .with(Place::Reg(Reg::Rax)),
         Ins::Mulx { hi, lo, .. } => only(Place::Reg(*lo)).with(Place::Reg(*hi)),
-        Ins::Carry { op, d, .. } => only(Place::Flag(carry_flag(*op))).with(Place::Reg(*d)),
+        Ins::Carry { op, d, .. } => only(Place::Flag(op.flag())).with(Place::Reg(*d)),
         Ins::XMov { d, .. }
         | Ins::XLoad { d, .. }
         | Ins::XBin { d, .. }

@@ -1,8 +1,11 @@
 // Instructions.
 
+ghost use Rattle.std.specs.Prelude.{◌≡◌};
+ghost use Rattle.x64_syntax.specs.Instructions.{carry_flag};
+
 use crate::conditions::Cond;
 use crate::operands::{Mem, Opr};
-use crate::places::{Reg, Xmm};
+use crate::places::{FlagName, Reg, Xmm};
 
 /// What an instruction of a register and a source computes; all of them set the flags.
 #[derive(Clone, Copy, Debug, PartialEq, Eq)]
@@ -41,6 +44,18 @@ pub enum ShiftOp {
 pub enum CarryOp {
     Adcx,
     Adox,
+}
+
+impl CarryOp {
+    /// The flag that it reads and writes.
+    pub const fn flag(self) -> FlagName
+        ensures { result ≡ carry_flag self }
+    {
+        match self {
+            CarryOp::Adcx => FlagName::Cf,
+            CarryOp::Adox => FlagName::Of,
+        }
+    }
 }
 
 /// What an instruction of two xmm registers computes.

@@ -1,7 +1,7 @@
 // The names of instructions in sources.
 
 ghost use Rattle.std.specs.Prelude.{◌≡◌, [], map, get_or};
-ghost use Rattle.x64_syntax.specs.Words.{operation_number, operation_name, gas_mnemonic, masm_mnemonic, named, operation_of};
+ghost use Rattle.x64_syntax.specs.Words.{operation_number, in_column, operation_name, gas_mnemonic, masm_mnemonic, named, operation_of, gas_operation_of};
 
 use crate::conditions::Cond;
 use crate::instructions::{AluOp, CarryOp, OneOp, ShiftOp, XBinOp, XShiftOp};
@@ -34,8 +34,15 @@ pub enum Operation {
 /// An instruction's name in a source, its mnemonics in GAS and in MASM syntax, and what it is.
 pub(crate) type Row<'a> = (&'a str, &'a str, &'a str, Operation);
 
-/// The instructions, by number.
-/// GAS has a further mnemonic for a move of a constant.
+/// Where a row has a name.
+#[derive(Clone, Copy, Debug, PartialEq, Eq)]
+pub(crate) enum Column {
+    Source,
+    Gas,
+    Masm,
+}
+
+/// The instructions, by number. GAS has a further mnemonic for a move of a constant.
 pub(crate) const INSTRUCTIONS: [(&str, &str, &str, Operation); 47] = [
     ("Mov64", "movq", "mov", Operation::Mov),
     ("Store64", "movq", "mov", Operation::Store),
@@ -155,7 +162,7 @@ impl Operation {
     pub fn name(self) -> &'static str
         ensures { result.now ≡ operation_name self }
     {
-        name_at(&INSTRUCTIONS, self.number())
+        name_at(&INSTRUCTIONS, Column::Source, self.number())
     }
 
     /// The mnemonic in GAS syntax, as `addq`.
@@ -163,7 +170,7 @@ impl Operation {
     pub fn gas(self) -> &'static str
         ensures { result.now ≡ gas_mnemonic self }
     {
-        gas_at(&INSTRUCTIONS, self.number())
+        name_at(&INSTRUCTIONS, Column::Gas, self.number())
     }
 
     /// The mnemonic in MASM syntax, as `add`.
@@ -171,33 +178,25 @@ impl Operation {
     pub fn masm(self) -> &'static str
         ensures { result.now ≡ masm_mnemonic self }
     {
-        masm_at(&INSTRUCTIONS, self.number())
+        name_at(&INSTRUCTIONS, Column::Masm, self.number())
     }
 }
 
-fn name_at(rows: &[Row<'static>], k: usize) -> &'static str
-    ensures { result.now ≡ get_or (map (λ r. r.0.now) rows.now) k [] }
+fn in_column<'a>(column: Column, row: &Row<'a>) -> &'a str
+    ensures { result.now ≡ in_column column row.now.0.now row.now.1.now row.now.2.now }
 {
-    match rows.get(k) {
-        Some(row) => row.0,
-        None => "",
+    match column {
+        Column::Source => row.0,
+        Column::Gas => row.1,
+        Column::Masm => row.2,
     }
 }
 
-fn gas_at(rows: &[Row<'static>], k: usize) -> &'static str
-    ensures { result.now ≡ get_or (map (λ r. r.1.now) rows.now) k [] }
+fn name_at(rows: &[Row<'static>], column: Column, k: usize) -> &'static str
+    ensures { result.now ≡ get_or (map (λ r. in_column column r.0.now r.1.now r.2.now) rows.now) k [] }
 {
     match rows.get(k) {
-        Some(row) => row.1,
-        None => "",
-    }
-}
-
-fn masm_at(rows: &[Row<'static>], k: usize) -> &'static str
-    ensures { result.now ≡ get_or (map (λ r. r.2.now) rows.now) k [] }
-{
-    match rows.get(k) {
-        Some(row) => row.2,
+        Some(row) => in_column(column, row),
         None => "",
     }
 }
@@ -207,15 +206,23 @@ fn masm_at(rows: &[Row<'static>], k: usize) -> &'static str
 pub fn operation_named(name: &[u8]) -> Option<Operation>
     ensures { result ≡ operation_of name.now }
 {
-    operation_among(&INSTRUCTIONS, name)
+    operation_among(&INSTRUCTIONS, Column::Source, name)
 }
 
-fn operation_among(rows: &[Row<'_>], name: &[u8]) -> Option<Operation>
-    ensures { result ≡ named (map (λ r. (r.0.now, r.3)) rows.now) name.now }
+/// The first instruction of the table with this mnemonic in GAS syntax: `Mov` for `movq`, which three of them have.
+#[tactic(auto, unfolding(crate::specs::Words::gas_instructions))]
+pub fn gas_named(mnemonic: &[u8]) -> Option<Operation>
+    ensures { result ≡ gas_operation_of mnemonic.now }
 {
-    for (written, _, _, operation) in rows {
-        if written.as_bytes() == name {
-            return Some(*operation);
+    operation_among(&INSTRUCTIONS, Column::Gas, mnemonic)
+}
+
+fn operation_among(rows: &[Row<'_>], column: Column, name: &[u8]) -> Option<Operation>
+    ensures { result ≡ named (map (λ r. (in_column column r.0.now r.1.now r.2.now, r.3)) rows.now) name.now }
+{
+    for row in rows {
+        if in_column(column, row).as_bytes() == name {
+            return Some(row.3);
         }
     }
     None

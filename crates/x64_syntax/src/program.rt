@@ -2,7 +2,7 @@
 
 ghost use Rattle.std.specs.Prelude.{◌≡◌, ◌≤◌, ◌^◌, nat_lt, true, length};
 ghost use Rattle.std.specs.List.{list_all};
-ghost use Rattle.x64_syntax.specs.Programs.{begins_with_entry, has_entry, entries_differ, is_item, labels_from, piece, jumps_stay, program_ok};
+ghost use Rattle.x64_syntax.specs.Programs.{begins_with_entry, has_entry, entries_differ, is_item, labels_from, piece, stray_jump, program_ok};
 ghost use Rattle.x64_syntax.specs.LabelCount.{label_count};
 
 use crate::forms::ins_ok;
@@ -51,7 +51,8 @@ pub(crate) fn is_number(_label: u32) -> bool
     true
 }
 
-fn is_item(item: &Item) -> bool
+/// Whether an item may stand in a program: an instruction is one of the machine's, and an entry's name is an export name.
+pub fn is_item(item: &Item) -> bool
     ensures { result ≡ is_item item.now }
 {
     match item {
@@ -104,10 +105,10 @@ fn labels_in_piece(items: &[Item]) -> u64
     count
 }
 
-// Whether each jump's label is in its own piece. Labels in order make a piece's labels a range.
-fn do_jumps_stay(items: &[Item]) -> bool
+/// The place of the first jump whose label isn't in its own piece. Labels in order make a piece's labels a range.
+pub fn stray_jump(items: &[Item]) -> Option<usize>
     requires { labels_from 0 items.now ≡ true }
-    ensures { result ≡ jumps_stay (piece items.now) items.now }
+    ensures { result ≡ stray_jump items.now }
 {
     let mut low = 0;
     let mut high = labels_in_piece(items);
@@ -119,13 +120,13 @@ fn do_jumps_stay(items: &[Item]) -> bool
             }
             Item::Jmp(label) | Item::Jcc(_, label) => {
                 if u64::from(*label) < low || high <= u64::from(*label) {
-                    return false;
+                    return Some(k);
                 }
             }
             Item::Ins(_) | Item::Label(_) | Item::Ret => {}
         }
     }
-    true
+    None
 }
 
 /// Whether items are a program: they are pieces that begin with an entry each; the entries' names are allowed and
@@ -140,7 +141,7 @@ pub fn program_ok(items: &[Item]) -> bool
     if !are_items(items) || !are_labels_in_order(items) {
         return false;
     }
-    do_jumps_stay(items)
+    stray_jump(items).is_none()
 }
 
 #[cfg(test)]

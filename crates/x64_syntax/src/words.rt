@@ -7,7 +7,7 @@ ghost use Rattle.x64_syntax.specs.Words.{same_text, among, among_rows, is_place_
 
 use crate::built_in::BUILT_IN;
 use crate::keywords::KEYWORDS;
-use crate::operations::{INSTRUCTIONS, Operation};
+use crate::operations::{INSTRUCTIONS, Row};
 use crate::places::{FlagName, Reg, Xmm};
 use crate::type_words::TYPE_WORDS;
 
@@ -19,12 +19,12 @@ pub(crate) enum Case {
 }
 
 /// The mnemonics that no instruction of the table has: of a move of a constant, jumps, and the end.
-pub const OTHER_MNEMONICS: [&str; 9] = [
+pub(crate) const OTHER_MNEMONICS: [&str; 9] = [
     "movabsq", "jmp", "je", "jne", "jb", "jbe", "ja", "jae", "ret",
 ];
 
 /// Further words that an assembler may read otherwise.
-pub const ASSEMBLER_WORDS: [&str; 69] = [
+pub(crate) const ASSEMBLER_WORDS: [&str; 69] = [
     "al", "ah", "ax", "eax", "bl", "bh", "bx", "ebx", "cl", "ch", "cx", "ecx", "dl", "dh", "dx",
     "edx", "si", "esi", "di", "edi", "bp", "ebp", "sp", "esp", "byte", "word", "dword", "qword",
     "xmmword", "ptr", "offset", "proc", "endp", "end", "public", "extern", "include", "segment",
@@ -34,7 +34,7 @@ pub const ASSEMBLER_WORDS: [&str; 69] = [
 ];
 
 /// The longest export name.
-pub const EXPORT_NAME_LIMIT: usize = 63;
+pub(crate) const EXPORT_NAME_LIMIT: usize = 63;
 
 /// Whether a text is a name: a letter or `_`, then letters, digits and `_`.
 pub fn is_name(text: &[u8]) -> bool
@@ -116,13 +116,13 @@ fn is_instruction(case: Case, name: &[u8]) -> bool
     is_written(&INSTRUCTIONS, case, name)
 }
 
-fn is_written(rows: &[(&str, &str, &str, Operation)], case: Case, name: &[u8]) -> bool
+fn is_written(rows: &[Row<'_>], case: Case, name: &[u8]) -> bool
     ensures { result ≡ list_any (λ row. same_text case row.0.now name.now) rows.now }
 {
     rows.iter().any(|row| is_same(case, row.0.as_bytes(), name))
 }
 
-fn is_spelled(rows: &[(&str, &str, &str, Operation)], case: Case, name: &[u8]) -> bool
+fn is_spelled(rows: &[Row<'_>], case: Case, name: &[u8]) -> bool
     ensures { result ≡ list_any (λ row. same_text case row.1.now name.now || same_text case row.2.now name.now) rows.now }
 {
     rows.iter().any(|row| {

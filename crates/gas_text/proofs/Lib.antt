@@ -1,0 +1,12 @@
+pub mod Cuts
+pub mod Numbers
+pub mod Names
+pub mod Operands
+pub mod Built
+pub mod Found
+pub mod Counts
+pub mod Order
+pub mod Lines
+pub mod Machine
+pub mod Going
+pub mod Counting

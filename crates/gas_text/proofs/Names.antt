@@ -1,0 +1,110 @@
+-- Names are read back, and their bytes are plain.
+use Rattle.std.proofs.Common.{◌≡◌, true, refl, Option, None, Some}
+use Rattle.std.specs.List.{list_all}
+use Rattle.x64_syntax.specs.declared.places.Reg.{Reg as GeneralReg}
+use Rattle.x64_syntax.specs.declared.places.Reg.TheVariants.{Rax, Rbx, Rcx, Rdx, Rsi, Rdi, Rbp, Rsp, R8, R9, R10, R11, R12, R13, R14, R15}
+use Rattle.x64_syntax.specs.declared.places.Xmm.{Xmm as XmmReg}
+use Rattle.x64_syntax.specs.declared.places.Xmm.TheVariants.{Xmm0, Xmm1, Xmm2, Xmm3, Xmm4, Xmm5, Xmm6, Xmm7, Xmm8, Xmm9, Xmm10, Xmm11, Xmm12, Xmm13, Xmm14, Xmm15}
+use Rattle.x64_syntax.specs.declared.conditions.Cond.{Cond}
+use Rattle.x64_syntax.specs.declared.conditions.Cond.TheVariants as condition
+use Rattle.x64_syntax.specs.Places.{reg_name, xmm_name, reg_of, xmm_of}
+use Rattle.asm_lines.specs.Lines.{cond_name, cond_of}
+use Rattle.gas_text.proofs.Cuts.{is_plain}
+
+pub reg_back : (r : GeneralReg) → reg_of (reg_name r) ≡ Some r
+reg_back Rax = refl
+reg_back Rbx = refl
+reg_back Rcx = refl
+reg_back Rdx = refl
+reg_back Rsi = refl
+reg_back Rdi = refl
+reg_back Rbp = refl
+reg_back Rsp = refl
+reg_back R8 = refl
+reg_back R9 = refl
+reg_back R10 = refl
+reg_back R11 = refl
+reg_back R12 = refl
+reg_back R13 = refl
+reg_back R14 = refl
+reg_back R15 = refl
+
+pub reg_plain : (r : GeneralReg) → list_all is_plain (reg_name r) ≡ true
+reg_plain Rax = refl
+reg_plain Rbx = refl
+reg_plain Rcx = refl
+reg_plain Rdx = refl
+reg_plain Rsi = refl
+reg_plain Rdi = refl
+reg_plain Rbp = refl
+reg_plain Rsp = refl
+reg_plain R8 = refl
+reg_plain R9 = refl
+reg_plain R10 = refl
+reg_plain R11 = refl
+reg_plain R12 = refl
+reg_plain R13 = refl
+reg_plain R14 = refl
+reg_plain R15 = refl
+
+pub xmm_back : (x : XmmReg) → xmm_of (xmm_name x) ≡ Some x
+xmm_back Xmm0 = refl
+xmm_back Xmm1 = refl
+xmm_back Xmm2 = refl
+xmm_back Xmm3 = refl
+xmm_back Xmm4 = refl
+xmm_back Xmm5 = refl
+xmm_back Xmm6 = refl
+xmm_back Xmm7 = refl
+xmm_back Xmm8 = refl
+xmm_back Xmm9 = refl
+xmm_back Xmm10 = refl
+xmm_back Xmm11 = refl
+xmm_back Xmm12 = refl
+xmm_back Xmm13 = refl
+xmm_back Xmm14 = refl
+xmm_back Xmm15 = refl
+
+pub xmm_no_reg : (x : XmmReg) → reg_of (xmm_name x) ≡ None
+xmm_no_reg Xmm0 = refl
+xmm_no_reg Xmm1 = refl
+xmm_no_reg Xmm2 = refl
+xmm_no_reg Xmm3 = refl
+xmm_no_reg Xmm4 = refl
+xmm_no_reg Xmm5 = refl
+xmm_no_reg Xmm6 = refl
+xmm_no_reg Xmm7 = refl
+xmm_no_reg Xmm8 = refl
+xmm_no_reg Xmm9 = refl
+xmm_no_reg Xmm10 = refl
+xmm_no_reg Xmm11 = refl
+xmm_no_reg Xmm12 = refl
+xmm_no_reg Xmm13 = refl
+xmm_no_reg Xmm14 = refl
+xmm_no_reg Xmm15 = refl
+
+pub xmm_plain : (x : XmmReg) → list_all is_plain (xmm_name x) ≡ true
+xmm_plain Xmm0 = refl
+xmm_plain Xmm1 = refl
+xmm_plain Xmm2 = refl
+xmm_plain Xmm3 = refl
+xmm_plain Xmm4 = refl
+xmm_plain Xmm5 = refl
+xmm_plain Xmm6 = refl
+xmm_plain Xmm7 = refl
+xmm_plain Xmm8 = refl
+xmm_plain Xmm9 = refl
+xmm_plain Xmm10 = refl
+xmm_plain Xmm11 = refl
+xmm_plain Xmm12 = refl
+xmm_plain Xmm13 = refl
+xmm_plain Xmm14 = refl
+xmm_plain Xmm15 = refl
+
+pub cond_back : (c : Cond) → cond_of (cond_name c) ≡ Some c
+cond_back condition.E = refl
+cond_back condition.Ne = refl
+cond_back condition.B = refl
+cond_back condition.Be = refl
+cond_back condition.A = refl
+cond_back condition.Ae = refl
