@@ -10,3 +10,4 @@ pub mod Lines
 pub mod Machine
 pub mod Going
 pub mod Counting
+pub mod Once

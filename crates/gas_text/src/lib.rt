@@ -3,10 +3,14 @@
 
 mod apart;
 mod fault;
+mod laws;
 mod printer;
 mod reader;
+#[cfg(test)]
+mod tests;
 mod text;
 
 pub use fault::AsmFault;
+pub use laws::{one_text, printed_is_read};
 pub use printer::print;
 pub use text::read;
