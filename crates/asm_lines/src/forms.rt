@@ -65,12 +65,8 @@ pub fn operands(ins: &Ins) -> Parts
         }
         Ins::Shift { d, n, .. } => Parts::Two(Part::General(d), count(n)),
         Ins::Mul { s } => Parts::One(source(s)),
-        Ins::Mulx { hi, lo, s } => {
-            Parts::Three(Part::General(hi), Part::General(lo), source(s))
-        }
-        Ins::XMov { d, s } | Ins::XBin { d, s, .. } => {
-            Parts::Two(Part::Wide(d), Part::Wide(s))
-        }
+        Ins::Mulx { hi, lo, s } => { Parts::Three(Part::General(hi), Part::General(lo), source(s)) }
+        Ins::XMov { d, s } | Ins::XBin { d, s, .. } => { Parts::Two(Part::Wide(d), Part::Wide(s)) }
         Ins::XLoad { d, m } => Parts::Two(Part::Wide(d), Part::Memory(m)),
         Ins::XStore { m, s } => Parts::Two(Part::Memory(m), Part::Wide(s)),
         Ins::XShuf { d, s, n } => Parts::Three(Part::Wide(d), Part::Wide(s), count(n)),
@@ -159,12 +155,11 @@ fn of_general(operation: Operation, d: Reg, s: Part) -> Option<Ins>
             d,
             s: of_source(s)?,
         }),
-        (Operation::Shift(op), Part::Number(n)) => Some(Ins::Shift {
-            op,
+        (Operation::Shift(op), Part::Number(n)) => Some(Ins::Shift { op, d, n: byte(n)? }),
+        (Operation::Imul, s) => Some(Ins::Imul {
             d,
-            n: byte(n)?,
+            s: of_source(s)?,
         }),
-        (Operation::Imul, s) => Some(Ins::Imul { d, s: of_source(s)? }),
         (Operation::Carry(op), s) => Some(Ins::Carry {
             op,
             d,
@@ -181,11 +176,7 @@ fn of_wide(operation: Operation, d: Xmm, s: Part) -> Option<Ins>
         (Operation::Movdqu, Part::Wide(s)) => Some(Ins::XMov { d, s }),
         (Operation::Movdqu, Part::Memory(m)) => Some(Ins::XLoad { d, m }),
         (Operation::XBin(op), Part::Wide(s)) => Some(Ins::XBin { op, d, s }),
-        (Operation::XShift(op), Part::Number(n)) => Some(Ins::XShift {
-            op,
-            d,
-            n: byte(n)?,
-        }),
+        (Operation::XShift(op), Part::Number(n)) => Some(Ins::XShift { op, d, n: byte(n)? }),
         (Operation::XMovq, Part::General(s)) => Some(Ins::XMovq { d, s }),
         _ => None,
     }

@@ -4,11 +4,9 @@
 mod forms;
 mod lines;
 mod listing;
-
 #[cfg(test)]
 mod tests;
 
 pub use forms::{Part, Parts, instruction, operands, operation};
 pub use lines::{Syntax, cond_name, cond_named, mnemonic, push, push_number};
 pub use listing::list_item;
-

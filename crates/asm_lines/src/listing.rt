@@ -5,8 +5,8 @@ ghost use Rattle.x64_syntax.specs.declared.items.Item.TheVariants as item;
 ghost use Rattle.asm_lines.specs.declared.forms.Parts.TheVariants as shape;
 ghost use Rattle.asm_lines.specs.Listing.{index_text, memory_text, part_text, operands_text, ins_listing, listing};
 
-use crate::lines::{cond_name, push, push_number};
 use crate::forms::{Part, Parts, operands, operation};
+use crate::lines::{cond_name, push, push_number};
 use std::alloc::{AllocError as NoMemory, Global};
 use x64_syntax::{Cond, Ins, Item, Mem, Reg, Text};
 

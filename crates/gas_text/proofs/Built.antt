@@ -1,6 +1,6 @@
 -- Instructions are built back from their operands.
-use Rattle.std.proofs.Common.{◌≡◌, ℕ, zero, suc, ◌-◌, ◌^◌, ◌<◌, ◌≤◌, Bool, true, false, refl, sym, ap, ◌∙◌, subst, arith, Option, None, Some, ℤ, pos, negsuc, ◌≤ℤ◌, mod-eq_of_lt}
-use Rattle.std.specs.Prelude.{◌&&◌, ◌||◌, ◌==◌, not, int_le, nat_le, neg_ℤ, IfSome, option_map, Result, Ok, Err, is_ok, if◌then◌else◌, FitsSigned}
+use Rattle.std.proofs.Common.{◌≡◌, ℕ, ◌-◌, ◌^◌, ◌<◌, ◌≤◌, Bool, true, false, refl, sym, ap, ◌∙◌, arith, Option, None, Some, ℤ, pos, negsuc, ◌≤ℤ◌, mod-eq_of_lt}
+use Rattle.std.specs.Prelude.{◌&&◌, ◌||◌, ◌==◌, not, int_le, nat_le, IfSome, option_map, Ok, Err, is_ok, if◌then◌else◌, FitsSigned}
 use Rattle.std.specs.Int.{w64, cast_signed, cast_unsigned}
 use Rattle.std.proofs.lemmas.Bool.{and_parts, and_from, leb-true, le-leb, eqb-true, false≢true}
 use Rattle.std.proofs.lemmas.Int.{to_z-of_z, ints}
@@ -48,7 +48,7 @@ pub word_fits : (z : ℤ) → size z < 2 ^ 63 → word_of z < 2 ^ 64
 word_fits (pos n) h = let small = mod-eq_of_lt {n = n} {m = 2 ^ 64} (omega (arith, h)) in omega (arith, small, h)
 word_fits (negsuc n) h = let small = mod-eq_of_lt {n = n} {m = 2 ^ 64} (omega (arith, h)) in omega (arith, small, h)
 
-in_range_of_size : (n : ℕ) (z : ℤ) → size z < n → (int_le (negsuc (n - 1)) z && int_le z (pos (n - 1))) ≡ true
+pub in_range_of_size : (n : ℕ) (z : ℤ) → size z < n → (int_le (negsuc (n - 1)) z && int_le z (pos (n - 1))) ≡ true
 in_range_of_size n (pos m) h = and_from _ _ refl (le-leb m (n - 1) (omega (arith, h)))
 in_range_of_size n (negsuc m) h = and_from _ _ (le-leb m (n - 1) (omega (arith, h))) refl
 
@@ -132,8 +132,8 @@ record Formed (i : Ins) : Type 0 where
 formed : (i : Ins) → is_ok (form_of i) ≡ true → Formed i
 formed i h = by_tests (constant_fits i) (displacement_fits (addresses i)) (count_fits i) (has_scale (addresses i)) refl refl refl refl h where
   by_tests : (k d c s : Bool) → constant_fits i ≡ k → displacement_fits (addresses i) ≡ d → count_fits i ≡ c → has_scale (addresses i) ≡ s
-    → is_ok (if not (k && d) then Err Immediate else if not c then Err Count else if not s then Err Scale else if names_rsp i then Err Register else if not (halves_differ i) then Err SameHighLow else Ok (tt {0})) ≡ true
-    → Formed i
+      → is_ok (if not (k && d) then Err Immediate else if not c then Err Count else if not s then Err Scale else if names_rsp i then Err Register else if not (halves_differ i) then Err SameHighLow else Ok (tt {0})) ≡ true
+      → Formed i
   by_tests true true true true a b e f h = record { constant = a; displaced = b; counted = e; scaled_ = f }
   by_tests true true true false a b e f h = absurd (false≢true h)
   by_tests true true false s a b e f h = absurd (false≢true h)

@@ -1,14 +1,12 @@
 -- How many lines items have, and where a stray jump is.
-use Rattle.std.proofs.Common.{◌≡◌, ℕ, zero, suc, ◌+◌, ◌*◌, ◌≤◌, ◌<◌, Bool, true, false, List, [], ◌∷◌, ◌++◌, refl, sym, ap, ◌∙◌, subst, arith, length, length-append, take, drop, Option, None, Some}
-use Rattle.std.specs.Prelude.{◌&&◌, ◌==◌, codes, if◌then◌else◌}
+use Rattle.std.proofs.Common.{◌≡◌, ℕ, zero, suc, ◌+◌, ◌≤◌, ◌<◌, Bool, true, false, List, [], ◌∷◌, refl, sym, ap, ◌∙◌, arith, length, length-append, take, drop, Some}
+use Rattle.std.specs.Prelude.{◌==◌, if◌then◌else◌}
 use Rattle.std.specs.List.{list_all}
 use Rattle.std.proofs.lemmas.Bool.{and_parts, and_from}
 use Rattle.std.proofs.lemmas.List.{take-append-drop}
-use Rattle.x64_syntax.specs.declared.instructions.Ins.{Ins}
-use Rattle.x64_syntax.specs.declared.conditions.Cond.{Cond}
 use Rattle.x64_syntax.specs.declared.items.Item.{Item}
 use Rattle.x64_syntax.specs.declared.items.Item.TheVariants as item
-use Rattle.x64_syntax.specs.Programs.{is_item, is_ordered, piece, has_label, stray_from, stray_jump}
+use Rattle.x64_syntax.specs.Programs.{is_item, piece, has_label, stray_from, stray_jump}
 use Rattle.gas_text.specs.Gas.{lines, unlines, items_text, gas_text}
 use Rattle.gas_text.specs.Text.{newlines}
 use Rattle.gas_text.proofs.Lines.{lines_clean, newlines_lines, newlines_append, text_append}

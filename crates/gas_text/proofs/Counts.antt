@@ -7,8 +7,6 @@ use Rattle.std.proofs.lemmas.Bool.{and_parts, false≢true}
 use Rattle.std.proofs.lemmas.Slice.Eq.{bytes_eq-Decides}
 use Rattle.std.specs.Str.{bytes_eq}
 use Rattle.std.specs.Borrow.{Bor}
-use Rattle.x64_syntax.specs.declared.instructions.Ins.{Ins}
-use Rattle.x64_syntax.specs.declared.conditions.Cond.{Cond}
 use Rattle.x64_syntax.specs.declared.items.Item.{Item}
 use Rattle.x64_syntax.specs.declared.items.Item.TheVariants as item
 use Rattle.x64_syntax.specs.Programs.{has_entry, is_item}
@@ -16,7 +14,7 @@ use Rattle.x64_syntax.specs.LabelCount.{label_count}
 use Rattle.asm_lines.specs.Operands.{at_most}
 use Rattle.asm_lines.specs.Lines.{cond_of}
 use Rattle.gas_text.specs.Gas.{line as line_text}
-use Rattle.gas_text.specs.Apart.{cut, found_item, found, item_of, called_so, label_of, ins_of}
+use Rattle.gas_text.specs.Apart.{cut, found_item, found, called_so, label_of, ins_of}
 use Rattle.gas_text.specs.Reading.{entry_names, checked, candidate, item_read}
 
 pub names_last_entry : (is : List Item) (name : List ℕ) → entry_names (is ++ item.Entry name ∷ []) ≡ entry_names is ++ name ∷ []

@@ -1,5 +1,5 @@
 -- Items are found in their lines.
-use Rattle.std.proofs.Common.{◌≡◌, ℕ, ◌-◌, ◌^◌, ◌<◌, ◌≤◌, Bool, true, false, List, [], ◌∷◌, ◌++◌, refl, sym, ap, ◌∙◌, arith, Option, None, Some, pos, decimal}
+use Rattle.std.proofs.Common.{◌≡◌, ℕ, ◌-◌, ◌^◌, ◌<◌, true, List, ◌++◌, refl, ap, ◌∙◌, arith, Some, pos, decimal}
 use Rattle.std.specs.Prelude.{codes, option_map, option_and_then, is_ok}
 use Rattle.x64_syntax.specs.declared.operands.Opr.TheVariants.{R, Imm, M}
 use Rattle.x64_syntax.specs.declared.conditions.Cond.{Cond}
@@ -21,11 +21,11 @@ use Rattle.asm_lines.specs.declared.lines.Syntax.TheVariants.{Gas}
 use Rattle.asm_lines.specs.Operands.{operands, operation, at_most}
 use Rattle.asm_lines.specs.Lines.{mnemonic}
 use Rattle.gas_text.specs.Gas.{operands_text, ins_line, line}
-use Rattle.gas_text.specs.Apart.{cut, digits_from, narrowed, called, ins_of, label_of, item_of, found, found_item}
+use Rattle.gas_text.specs.Apart.{narrowed, called, ins_of, label_of, item_of, found, found_item}
 use Rattle.gas_text.proofs.Cuts.{lacks, cut_at}
 use Rattle.gas_text.proofs.Numbers.{read_decimal}
 use Rattle.gas_text.proofs.Operands.{parts_back}
-use Rattle.gas_text.proofs.Built.{Back, back, at_most_back}
+use Rattle.gas_text.proofs.Built.{back, at_most_back}
 
 -- what is found under an instruction's mnemonic
 record Called (i : Ins) : Type 0 where

@@ -1,21 +1,21 @@
 -- What the loop over lines keeps, and where it ends.
-use Rattle.std.proofs.Common.{◌≡◌, ◌≢◌, ℕ, ◌+◌, ◌≤◌, ◌<◌, Bool, true, false, List, [], ◌∷◌, ◌++◌, refl, sym, ap, ◌∙◌, subst, arith, length, length-append, ◌⊎◌, inl, inr}
+use Rattle.std.proofs.Common.{◌≡◌, ℕ, ◌+◌, ◌≤◌, ◌<◌, Bool, true, false, List, [], ◌∷◌, ◌++◌, refl, sym, ap, ◌∙◌, subst, arith, length, length-append}
 use Rattle.std.specs.Prelude.{◌&&◌, ◌==◌, not, codes, Option, Some, None, option_map, option_and_then, if◌then◌else◌}
 use Rattle.std.specs.List.{list_all}
 use Rattle.std.specs.Str.{bytes_eq}
-use Rattle.std.proofs.lemmas.Bool.{and_parts, and_from, false≢true, eqb-true}
+use Rattle.std.proofs.lemmas.Bool.{and_from, false≢true, eqb-true}
 use Rattle.std.proofs.lemmas.List.{append-nil, append_assoc, append_cancel_left}
 use Rattle.x64_syntax.specs.declared.items.Item.{Item}
 use Rattle.x64_syntax.specs.Programs.{is_ordered}
 use Rattle.gas_text.specs.Gas.{unlines, items_text, gas_text}
 use Rattle.gas_text.specs.Apart.{cut}
 use Rattle.gas_text.specs.Reading.{Sofar, next, run}
-use Rattle.gas_text.specs.Text.{newlines, Begins, IsNoText, BadLine, bad, early}
-use Rattle.gas_text.proofs.Cuts.{lacks, cut_at, cut_none}
+use Rattle.gas_text.specs.Text.{newlines, Begins, BadLine, bad, early}
+use Rattle.gas_text.proofs.Cuts.{lacks, cut_at}
 use Rattle.gas_text.proofs.Counts.{bytes_same}
 use Rattle.gas_text.proofs.Order.{ordered_parts}
-use Rattle.gas_text.proofs.Lines.{all_lines, text_lines, all_lines_clean, all_clean_append, unlines_append, Front, front_lines, newlines_append, newlines_none, newlines_lines}
-use Rattle.gas_text.proofs.Machine.{start, run_append, Valid, valid_start, pending, held, Ran, runs_sound, begins, runs_complete}
+use Rattle.gas_text.proofs.Lines.{all_lines, text_lines, all_lines_clean, all_clean_append, unlines_append, front_lines, newlines_none, newlines_lines}
+use Rattle.gas_text.proofs.Machine.{start, run_append, valid_start, pending, held, Ran, runs_sound, begins, runs_complete}
 
 -- where a text is cut
 
@@ -93,8 +93,8 @@ module _ (text rest : List ℕ) (so : Sofar) (number : ℕ) (g : Going text rest
       done = g.done ++ line ∷ [];
       clean = all_clean_append g.done (line ∷ []) g.clean (and_from _ _ split.clean refl);
       is =
-        g.is
-        ∙ ap (λ t. codes ".text\n" ++ t)
+          g.is
+          ∙ ap (λ t. codes ".text\n" ++ t)
           (ap (λ r. unlines g.done ++ r) (split.is ∙ sym (append_assoc line (codes "\n") behind)) ∙ sym (append_assoc (unlines g.done) (line ++ codes "\n") behind) ∙ ap (λ t. t ++ behind) (sym (unlines_append g.done (line ∷ []))));
       ran = run_append start g.done (line ∷ []) ∙ ap (λ o. option_and_then (λ s. run s (line ∷ [])) o) g.ran ∙ ap (λ o. option_and_then (λ s. run s []) o) n;
       line = let l = length-append g.done (line ∷ []) in let k = g.line in omega (arith, l, k);
@@ -104,16 +104,16 @@ module _ (text rest : List ℕ) (so : Sofar) (number : ℕ) (g : Going text rest
     unfolding front
     going_bad n =
         bad front line behind
-          (g.is ∙ ap (λ t. codes ".text\n" ++ (unlines g.done ++ t)) split.is)
-          (newlines_none line split.clean)
-          front_begins
-          no_more
-          (sym front_lines_are)
+        (g.is ∙ ap (λ t. codes ".text\n" ++ (unlines g.done ++ t)) split.is)
+        (newlines_none line split.clean)
+        front_begins
+        no_more
+        (sym front_lines_are)
       where
         no_more : Begins ((codes ".text\n" ++ unlines g.done) ++ (line ++ codes "\n")) → ⊥
         no_more b =
             let lines_are : unlines (all_lines b.items) ≡ unlines (g.done ++ line ∷ []) ++ b.rest =
-                sym (text_lines b.items) ∙ append_cancel_left (codes ".text\n") _ _ b.is ∙ ap (λ t. t ++ b.rest) (sym (unlines_append g.done (line ∷ []))) in
+            sym (text_lines b.items) ∙ append_cancel_left (codes ".text\n") _ _ b.is ∙ ap (λ t. t ++ b.rest) (sym (unlines_append g.done (line ∷ []))) in
             let clean = all_clean_append g.done (line ∷ []) g.clean (and_from _ _ split.clean refl) in
             let f = front_lines (g.done ++ line ∷ []) (all_lines b.items) b.rest clean (all_lines_clean b.items (ordered_parts b.items b.ordered).items) lines_are in
             let stops : run start (g.done ++ line ∷ []) ≡ None = run_append start g.done (line ∷ []) ∙ ap (λ o. option_and_then (λ s. run s (line ∷ [])) o) g.ran ∙ ap (λ o. option_and_then (λ s. run s []) o) n in
@@ -148,17 +148,18 @@ module _ (text rest : List ℕ) (so : Sofar) (number : ℕ) (g : Going text rest
             by_test false k = k
 
     pub going_done : rest ≡ [] → so.awaited ≡ None → (is_ordered so.items ≡ true) × (gas_text so.items ≡ text)
-    going_done empty none =
-        (ran.valid.ordered,
-         ap (λ t. codes ".text\n" ++ t) (sym (append-nil (items_text so.items)) ∙ ap (λ a. items_text so.items ++ pending a) (sym none) ∙ ran.held_ ∙ sym (append-nil (unlines g.done)) ∙ ap (λ r. unlines g.done ++ r) (sym empty))
-         ∙ sym g.is)
+    going_done empty none = (
+      ran.valid.ordered,
+      ap (λ t. codes ".text\n" ++ t) (sym (append-nil (items_text so.items)) ∙ ap (λ a. items_text so.items ++ pending a) (sym none) ∙ ran.held_ ∙ sym (append-nil (unlines g.done)) ∙ ap (λ r. unlines g.done ++ r) (sym empty))
+          ∙ sym g.is,
+    )
 
     pub going_early : ((rest ≡ []) × (so.awaited ≡ None) → ⊥) → BadLine text number
     unfolding front
     going_early more =
         early front rest g.is (newlines_none rest lacks_rest) front_begins
-          (λ items h e. let r = all_read items h e in more (r.0, ap (λ s. s.awaited) r.1))
-          (sym front_lines_are)
+        (λ items h e. let r = all_read items h e in more (r.0, ap (λ s. s.awaited) r.1))
+        (sym front_lines_are)
 
 nothing_begins : Begins []
 unfolding items_text
@@ -172,11 +173,11 @@ no_start text other = by_cut (cut 10 text) refl where
   by_cut (Some p) c =
       let s = cut_splits 10 text p.0 p.1 c in
       bad [] p.0 p.1 s.is (newlines_none p.0 s.clean) nothing_begins
-        (λ b. let same : Some (codes ".text", items_text b.items) ≡ Some (p.0, b.rest) =
-            sym (cut_at 10 (codes ".text") (items_text b.items) refl) ∙ ap (cut 10) (b.is ∙ append_assoc p.0 (codes "\n") b.rest) ∙ cut_at 10 p.0 b.rest s.clean in
-          let line : codes ".text" ≡ p.0 = ap (λ o. first o) same in
-          other p.1 (c ∙ ap (λ l. Some (l, p.1)) (sym line)))
-        refl
+      (λ b. let same : Some (codes ".text", items_text b.items) ≡ Some (p.0, b.rest) =
+      sym (cut_at 10 (codes ".text") (items_text b.items) refl) ∙ ap (cut 10) (b.is ∙ append_assoc p.0 (codes "\n") b.rest) ∙ cut_at 10 p.0 b.rest s.clean in
+      let line : codes ".text" ≡ p.0 = ap (λ o. first o) same in
+      other p.1 (c ∙ ap (λ l. Some (l, p.1)) (sym line)))
+      refl
 
 pub no_start_none : (text : List ℕ) → cut 10 text ≡ None → BadLine text 1
 no_start_none text c = no_start text (λ rest e. no_option (sym c ∙ e)) where

@@ -1,6 +1,6 @@
 -- The lines of a text: each without a newline of its own.
-use Rattle.std.proofs.Common.{◌≡◌, ℕ, ◌+◌, Bool, true, false, List, [], ◌∷◌, ◌++◌, refl, sym, ap, ◌∙◌, subst, arith, length, decimal, pos, ◌<◌, ◌^◌}
-use Rattle.std.specs.Prelude.{◌||◌, ◌&&◌, ◌==◌, not, nat_lt, codes, Option, Some, None, IfSome, is_ok, if◌then◌else◌}
+use Rattle.std.proofs.Common.{◌≡◌, ℕ, ◌+◌, Bool, true, false, List, [], ◌∷◌, ◌++◌, refl, sym, ap, ◌∙◌, arith, length, decimal, pos, ◌^◌}
+use Rattle.std.specs.Prelude.{◌||◌, ◌==◌, not, nat_lt, codes, Option, Some, None, IfSome, is_ok, if◌then◌else◌}
 use Rattle.std.specs.Fmt.{signed_decimal}
 use Rattle.std.specs.List.{list_all}
 use Rattle.std.proofs.lemmas.Bool.{and_parts, and_from, false≢true, ltb-true}
@@ -12,7 +12,7 @@ use Rattle.x64_syntax.specs.declared.instructions.Ins.{Ins}
 use Rattle.x64_syntax.specs.declared.items.Item.{Item}
 use Rattle.x64_syntax.specs.declared.items.Item.TheVariants as item
 use Rattle.x64_syntax.specs.Places.{reg_name, xmm_name}
-use Rattle.x64_syntax.specs.Words.{is_export_text, is_name_byte, is_letter_byte, is_digit_byte}
+use Rattle.x64_syntax.specs.Words.{is_export_text, is_name_byte}
 use Rattle.x64_syntax.specs.Instructions.{form_of}
 use Rattle.x64_syntax.specs.Programs.{is_item}
 use Rattle.asm_lines.specs.declared.forms.Part.{Part}
@@ -22,12 +22,12 @@ use Rattle.asm_lines.specs.declared.forms.Parts.TheVariants.{One, Two, Three}
 use Rattle.asm_lines.specs.declared.lines.Syntax.TheVariants.{Gas}
 use Rattle.asm_lines.specs.Operands.{operands, at_most}
 use Rattle.asm_lines.specs.Lines.{mnemonic}
-use Rattle.gas_text.specs.Gas.{index_text, memory_text, part_text, operands_text, line, lines, unlines, items_text}
+use Rattle.gas_text.specs.Gas.{index_text, part_text, operands_text, line, lines, unlines, items_text}
 use Rattle.gas_text.specs.Text.{newlines}
 use Rattle.gas_text.specs.Apart.{cut}
 use Rattle.gas_text.proofs.Cuts.{is_plain, lacks, lacks_append, lacks_plain, cut_at}
 use Rattle.gas_text.proofs.Names.{reg_plain, xmm_plain}
-use Rattle.gas_text.proofs.Operands.{Readable, readable_pos, Addressable, Legible, AllLegible}
+use Rattle.gas_text.proofs.Operands.{Readable, readable_pos, Legible, AllLegible}
 use Rattle.gas_text.proofs.Built.{back}
 use Rattle.gas_text.proofs.Found.{mnemonic_clean}
 
@@ -41,7 +41,7 @@ part_clean (Wide x) h = lacks_plain 10 (xmm_name x) refl (xmm_plain x)
 part_clean (Number z) h = lacks_plain 10 (signed_decimal z) refl h.plain
 part_clean (Memory m) h =
     lacks_append 10 (signed_decimal m.disp) (codes "(%" ++ (reg_name m.base ++ (index_text m.index ++ codes ")"))) (lacks_plain 10 (signed_decimal m.disp) refl h.disp.plain)
-      (lacks_append 10 (reg_name m.base) (index_text m.index ++ codes ")") (lacks_plain 10 (reg_name m.base) refl (reg_plain m.base)) (lacks_append 10 (index_text m.index) (codes ")") (index_clean m.index h.scale) refl))
+    (lacks_append 10 (reg_name m.base) (index_text m.index ++ codes ")") (lacks_plain 10 (reg_name m.base) refl (reg_plain m.base)) (lacks_append 10 (index_text m.index) (codes ")") (index_clean m.index h.scale) refl))
 
 operands_clean : (ps : Parts) → AllLegible ps → lacks 10 (operands_text ps) ≡ true
 operands_clean (One a) h = part_clean a h
@@ -137,7 +137,7 @@ front_lines (l ∷ ls) (m ∷ ks) rest h k e =
     let p = and_parts (lacks 10 l) _ h in
     let q = and_parts (lacks 10 m) _ k in
     let same : Some (m, unlines ks) ≡ Some (l, unlines ls ++ rest) =
-        sym (cut_at 10 m (unlines ks) q.0) ∙ ap (cut 10) (e ∙ append_assoc l (codes "\n" ++ unlines ls) rest) ∙ cut_at 10 l (unlines ls ++ rest) p.0 in
+    sym (cut_at 10 m (unlines ks) q.0) ∙ ap (cut 10) (e ∙ append_assoc l (codes "\n" ++ unlines ls) rest) ∙ cut_at 10 l (unlines ls ++ rest) p.0 in
     let line : m ≡ l = ap (λ o. first o) same in
     let after : unlines ks ≡ unlines ls ++ rest = ap (λ o. second o) same in
     let f = front_lines ls ks rest p.1 q.1 after in

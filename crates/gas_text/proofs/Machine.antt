@@ -1,27 +1,22 @@
 -- Lines read one after the other are those of the items that are read.
-use Rattle.std.proofs.Common.{◌≡◌, ℕ, ◌+◌, ◌-◌, ◌^◌, Bool, true, false, List, [], ◌∷◌, ◌++◌, refl, sym, ap, ◌∙◌, subst, arith, take, drop, pos, decimal, ◌⊎◌, inl, inr}
-use Rattle.std.specs.Prelude.{◌&&◌, ◌==◌, not, nat_lt, codes, Option, Some, None, IfSome, option_map, option_and_then, is_ok, if◌then◌else◌}
-use Rattle.std.specs.List.{list_all}
+use Rattle.std.proofs.Common.{◌≡◌, ℕ, ◌+◌, ◌-◌, ◌^◌, Bool, true, false, List, [], ◌∷◌, ◌++◌, refl, sym, ap, ◌∙◌, subst, arith, take, drop, pos}
+use Rattle.std.specs.Prelude.{◌&&◌, ◌==◌, not, nat_lt, codes, Option, Some, None, IfSome, option_map, option_and_then, if◌then◌else◌}
 use Rattle.std.specs.Str.{bytes_eq}
 use Rattle.std.proofs.lemmas.Bool.{and_parts, and_from, false≢true, eqb-true, ltb-true}
 use Rattle.std.proofs.lemmas.List.{append-nil, append_assoc, take-append-drop}
-use Rattle.x64_syntax.specs.declared.conditions.Cond.{Cond}
-use Rattle.x64_syntax.specs.declared.conditions.Cond.TheVariants as condition
-use Rattle.x64_syntax.specs.declared.instructions.Ins.{Ins}
 use Rattle.x64_syntax.specs.declared.items.Item.{Item}
 use Rattle.x64_syntax.specs.declared.items.Item.TheVariants as item
 use Rattle.x64_syntax.specs.Words.{is_export_text}
-use Rattle.x64_syntax.specs.Instructions.{form_of}
-use Rattle.x64_syntax.specs.Programs.{begins_with_entry, entries_differ, has_entry, is_item, labels_from, is_ordered}
+use Rattle.x64_syntax.specs.Programs.{begins_with_entry, has_entry, is_item, is_ordered}
 use Rattle.x64_syntax.specs.LabelCount.{label_count}
 use Rattle.asm_lines.specs.Operands.{at_most}
-use Rattle.gas_text.specs.Gas.{line as line_text, lines, unlines, items_text, gas_text}
+use Rattle.gas_text.specs.Gas.{line as line_text, lines, unlines, items_text}
 use Rattle.gas_text.specs.Apart.{found_item}
-use Rattle.gas_text.specs.Reading.{Sofar, checked, candidate, item_read, global_name, grown, entry_read, global_read, code_read, read_by, next, run}
+use Rattle.gas_text.specs.Reading.{Sofar, checked, item_read, global_name, grown, entry_read, global_read, code_read, read_by, next, run}
 use Rattle.gas_text.specs.Text.{Begins}
 use Rattle.gas_text.proofs.Built.{at_most_back}
 use Rattle.gas_text.proofs.Found.{found_ins, found_jmp, found_jcc, found_ret}
-use Rattle.gas_text.proofs.Counts.{is_code, Next, is_code_next, Checked, read_checked, bytes_from, bytes_same}
+use Rattle.gas_text.proofs.Counts.{is_code, Next, is_code_next, read_checked, bytes_from, bytes_same}
 use Rattle.gas_text.proofs.Order.{is_no, Ordered, ordered_parts, ordered_entry, ordered_next, all_behind, entry_behind, labels_behind}
 use Rattle.gas_text.proofs.Lines.{all_lines, text_append, text_one, unlines_append}
 
@@ -66,14 +61,14 @@ grows_entry is name l after v e = by_test (bytes_eq l (name ++ codes ":")) refl 
       let p = and_parts (is_export_text name) _ v.fresh in
       let declared = codes ".globl " ++ (name ++ codes "\n") in
       let lines_is : codes ".globl " ++ (name ++ 10 ∷ ((name ++ codes ":") ++ codes "\n")) ≡ declared ++ ((name ++ codes ":") ++ codes "\n") =
-        ap (λ t. codes ".globl " ++ t) (sym (append_assoc name (codes "\n") ((name ++ codes ":") ++ codes "\n"))) in
+      ap (λ t. codes ".globl " ++ t) (sym (append_assoc name (codes "\n") ((name ++ codes ":") ++ codes "\n"))) in
       subst (λ s. Grows (record { items = is; awaited = Some name }) s l) same (record {
         valid = record { ordered = ordered_entry is name v.ordered p.0 (is_no _ p.1); fresh = tt };
         held_ =
-          append-nil (items_text (is ++ item.Entry name ∷ [])) ∙ text_append is (item.Entry name ∷ [])
-          ∙ ap (λ t. items_text is ++ t) (text_one (item.Entry name) ∙ lines_is)
-          ∙ sym (append_assoc (items_text is) declared ((name ++ codes ":") ++ codes "\n"))
-          ∙ ap (λ t. (items_text is ++ declared) ++ (t ++ codes "\n")) (sym own);
+            append-nil (items_text (is ++ item.Entry name ∷ [])) ∙ text_append is (item.Entry name ∷ [])
+            ∙ ap (λ t. items_text is ++ t) (text_one (item.Entry name) ∙ lines_is)
+            ∙ sym (append_assoc (items_text is) declared ((name ++ codes ":") ++ codes "\n"))
+            ∙ ap (λ t. (items_text is ++ declared) ++ (t ++ codes "\n")) (sym own);
       })
 
 grows_global : (is : List Item) (name l : List ℕ) (after : Sofar) → Valid (record { items = is; awaited = None }) → global_name l ≡ Some name → global_read is name ≡ Some after → Grows (record { items = is; awaited = None }) after l
@@ -116,8 +111,8 @@ grows_code (i ∷ is) l after v e = by_read (item_read (label_count (i ∷ is)) 
       subst (λ s. Grows (record { items = all; awaited = None }) s l) same (record {
         valid = record { ordered = ordered_next i is j v.ordered c.item c.next; fresh = tt };
         held_ =
-          append-nil (items_text (all ++ j ∷ [])) ∙ text_append all (j ∷ []) ∙ ap (λ t. items_text all ++ t) (text_one j ∙ ap unlines (code_lines j code) ∙ ap (λ t. t ++ codes "\n") c.own)
-          ∙ ap (λ t. t ++ (l ++ codes "\n")) (sym (append-nil (items_text all)));
+            append-nil (items_text (all ++ j ∷ [])) ∙ text_append all (j ∷ []) ∙ ap (λ t. items_text all ++ t) (text_one j ∙ ap unlines (code_lines j code) ∙ ap (λ t. t ++ codes "\n") c.own)
+            ∙ ap (λ t. t ++ (l ++ codes "\n")) (sym (append-nil (items_text all)));
       })
 
 pub grows : (so after : Sofar) (l : List ℕ) → Valid so → next so l ≡ Some after → Grows so after l
@@ -164,9 +159,9 @@ begins so v = by_awaited so.items so.awaited v where
         rest = own;
         ordered = ordered_entry is name v.ordered p.0 (is_no _ p.1);
         is =
-          ap (λ t. codes ".text\n" ++ t)
+            ap (λ t. codes ".text\n" ++ t)
             (text_append is (item.Entry name ∷ []) ∙ ap (λ t. items_text is ++ t) (text_one (item.Entry name) ∙ ap (λ t. codes ".globl " ++ t) (sym (append_assoc name (codes "\n") own)))
-             ∙ sym (append_assoc (items_text is) declared own));
+            ∙ sym (append_assoc (items_text is) declared own));
       }
 
 -- Each item's lines are read as it.

@@ -1,5 +1,5 @@
 -- Names are read back, and their bytes are plain.
-use Rattle.std.proofs.Common.{◌≡◌, true, refl, Option, None, Some}
+use Rattle.std.proofs.Common.{◌≡◌, true, refl, None, Some}
 use Rattle.std.specs.List.{list_all}
 use Rattle.x64_syntax.specs.declared.places.Reg.{Reg as GeneralReg}
 use Rattle.x64_syntax.specs.declared.places.Reg.TheVariants.{Rax, Rbx, Rcx, Rdx, Rsi, Rdi, Rbp, Rsp, R8, R9, R10, R11, R12, R13, R14, R15}

@@ -1,6 +1,6 @@
 -- No two lists of items have one text.
-use Rattle.std.proofs.Common.{◌≡◌, ℕ, ◌+◌, Bool, true, false, List, [], ◌∷◌, ◌++◌, refl, sym, ap, ◌∙◌, subst, Option, None, Some, ◌⊎◌, inl, inr}
-use Rattle.std.specs.Prelude.{◌&&◌, codes, is_none, Result, Ok, Err}
+use Rattle.std.proofs.Common.{◌≡◌, ℕ, true, List, [], ◌∷◌, ◌++◌, refl, sym, ap, ◌∙◌, Option, None, Some, ◌⊎◌, inl, inr}
+use Rattle.std.specs.Prelude.{codes, is_none, Result, Ok, Err}
 use Rattle.std.proofs.lemmas.Bool.{and_parts, false≢true}
 use Rattle.std.proofs.lemmas.List.{append-nil, append_assoc, append_cancel_left}
 use Rattle.x64_syntax.specs.declared.items.Item.{Item}
@@ -9,15 +9,15 @@ use Rattle.gas_text.specs.declared.fault.AsmFault.{AsmFault}
 use Rattle.gas_text.specs.declared.fault.AsmFault.TheVariants.{Line, Label, NoMemory}
 use Rattle.gas_text.specs.Gas.{unlines, gas_text}
 use Rattle.gas_text.specs.Reading.{Sofar, run}
-use Rattle.gas_text.specs.Text.{Begins, BadLine, bad, early, Strays, ReadsAs, Reads}
+use Rattle.gas_text.specs.Text.{BadLine, bad, early, Strays, ReadsAs, Reads}
 use Rattle.gas_text.proofs.Order.{ordered_parts}
-use Rattle.gas_text.proofs.Lines.{all_lines, text_lines, all_lines_clean, Front, front_lines}
+use Rattle.gas_text.proofs.Lines.{all_lines, text_lines, all_lines_clean, front_lines}
 use Rattle.gas_text.proofs.Machine.{start, runs_complete}
 
 pub once : (a b : List Item) → is_ordered a ≡ true → is_ordered b ≡ true → gas_text a ≡ gas_text b → a ≡ b
 once a b h k e =
     let lines_are : unlines (all_lines b) ≡ unlines (all_lines a) ++ [] =
-        sym (text_lines b) ∙ append_cancel_left (codes ".text\n") _ _ (sym e) ∙ text_lines a ∙ sym (append-nil (unlines (all_lines a))) in
+    sym (text_lines b) ∙ append_cancel_left (codes ".text\n") _ _ (sym e) ∙ text_lines a ∙ sym (append-nil (unlines (all_lines a))) in
     let f = front_lines (all_lines a) (all_lines b) [] (all_lines_clean a (ordered_parts a h).items) (all_lines_clean b (ordered_parts b k).items) lines_are in
     by_more f.more f.is f.behind
   where

@@ -1,6 +1,6 @@
 -- Operands are read back from their text.
-use Rattle.std.proofs.Common.{◌≡◌, ℕ, zero, suc, ◌^◌, ◌<◌, Bool, true, false, List, [], ◌∷◌, ◌++◌, refl, sym, ap, ◌∙◌, subst, arith, length, Option, None, Some, ◌⊎◌, inl, inr, ℤ, pos, negsuc, decimal}
-use Rattle.std.specs.Prelude.{◌==◌, ◌&&◌, ◌||◌, not, codes, neg_ℤ, option_map, option_and_then, IfSome, if◌then◌else◌}
+use Rattle.std.proofs.Common.{◌≡◌, ℕ, suc, ◌^◌, ◌<◌, Bool, true, false, List, [], ◌∷◌, ◌++◌, refl, sym, ap, ◌∙◌, subst, arith, length, Option, None, Some, inl, inr, ℤ, pos, negsuc, decimal}
+use Rattle.std.specs.Prelude.{◌==◌, ◌||◌, codes, neg_ℤ, option_map, IfSome, if◌then◌else◌}
 use Rattle.std.specs.Fmt.{signed_decimal}
 use Rattle.std.specs.List.{list_all}
 use Rattle.std.proofs.lemmas.Bool.{and_parts, and_from, eqb-true, false≢true}
@@ -8,7 +8,7 @@ use Rattle.std.proofs.lemmas.List.{append-nil, append_assoc}
 use Rattle.std.proofs.lemmas.Fmt.{decimal_nonempty}
 use Rattle.x64_syntax.specs.declared.places.Reg.{Reg as GeneralReg}
 use Rattle.x64_syntax.specs.declared.operands.Mem.{Mem}
-use Rattle.x64_syntax.specs.Places.{reg_name, xmm_name, reg_of}
+use Rattle.x64_syntax.specs.Places.{reg_name, xmm_name}
 use Rattle.x64_syntax.specs.Words.{is_digit_byte}
 use Rattle.asm_lines.specs.declared.forms.Part.{Part}
 use Rattle.asm_lines.specs.declared.forms.Part.TheVariants.{General, Wide, Number, Memory}
@@ -16,7 +16,7 @@ use Rattle.asm_lines.specs.declared.forms.Parts.{Parts}
 use Rattle.asm_lines.specs.declared.forms.Parts.TheVariants.{One, Two, Three}
 use Rattle.asm_lines.specs.Operands.{at_most}
 use Rattle.gas_text.specs.Gas.{index_text, memory_text, part_text, operands_text}
-use Rattle.gas_text.specs.Apart.{cut, before_comma, digits_from, number, register, displacement, scaled, addressed, memory, named_part, part_of, more_parts, parts_behind, parts_of}
+use Rattle.gas_text.specs.Apart.{cut, digits_from, number, displacement, scaled, addressed, memory, part_of, parts_of}
 use Rattle.gas_text.proofs.Cuts.{is_plain, lacks, lacks_append, lacks_plain, cut_at, cut_none, differ, Ended, before_end}
 use Rattle.gas_text.proofs.Names.{reg_back, reg_plain, xmm_back, xmm_no_reg, xmm_plain}
 use Rattle.gas_text.proofs.Numbers.{are_digits, read_decimal}
@@ -53,10 +53,10 @@ readable_pos n h = by_text (decimal n) refl where
       let no_sign : (d == 45) ≡ false = no_dash d digit.0 in
       record {
         back =
-          ap number e
-          ∙ ap (λ (t : Bool). if t then option_map (λ n. neg_ℤ (pos n)) (digits_from 0 ds) else option_map pos (digits_from 0 (d ∷ ds))) no_sign
-          ∙ ap (λ t. option_map pos (digits_from 0 t)) (sym e)
-          ∙ ap (λ o. option_map pos o) (read_decimal n h);
+            ap number e
+            ∙ ap (λ (t : Bool). if t then option_map (λ n. neg_ℤ (pos n)) (digits_from 0 ds) else option_map pos (digits_from 0 (d ∷ ds))) no_sign
+            ∙ ap (λ t. option_map pos (digits_from 0 t)) (sym e)
+            ∙ ap (λ o. option_map pos o) (read_decimal n h);
         first = d;
         others = ds;
         text = e;
@@ -123,9 +123,9 @@ memory_back : (m : Mem) (end : List ℕ) → Addressable m → memory (memory_te
 memory_back m end h =
     let inner = codes "%" ++ (reg_name m.base ++ index_text m.index) in
     let opened : cut 40 (signed_decimal m.disp ++ 40 ∷ (inner ++ 41 ∷ end)) ≡ Some (signed_decimal m.disp, inner ++ 41 ∷ end) =
-        cut_at 40 (signed_decimal m.disp) (inner ++ 41 ∷ end) (lacks_plain 40 (signed_decimal m.disp) refl h.disp.plain) in
+    cut_at 40 (signed_decimal m.disp) (inner ++ 41 ∷ end) (lacks_plain 40 (signed_decimal m.disp) refl h.disp.plain) in
     let closed : cut 41 (inner ++ 41 ∷ end) ≡ Some (inner, end) =
-        cut_at 41 inner end (lacks_append 41 (reg_name m.base) (index_text m.index) (lacks_plain 41 (reg_name m.base) refl (reg_plain m.base)) (lacks_index m.index h.scale)) in
+    cut_at 41 inner end (lacks_append 41 (reg_name m.base) (index_text m.index) (lacks_plain 41 (reg_name m.base) refl (reg_plain m.base)) (lacks_index m.index h.scale)) in
     ap memory (memory_split m end) ∙ rw (opened, closed, h.disp.back, h.short) (addressed_back m h)
 
 -- a text that begins as a number is a memory operand
@@ -138,7 +138,7 @@ part_back (Wide x) end h e = rw (before_end (xmm_name x) end (xmm_plain x) e, xm
 part_back (Number z) end h e = rw (before_end (signed_decimal z) end h.plain e, h.back) refl
 part_back (Memory m) end h e =
     let text : memory_text m ++ end ≡ h.disp.first ∷ (h.disp.others ++ (codes "(" ++ ((codes "%" ++ (reg_name m.base ++ index_text m.index)) ++ (codes ")" ++ end)))) =
-        memory_split m end ∙ ap (λ t. t ++ (codes "(" ++ ((codes "%" ++ (reg_name m.base ++ index_text m.index)) ++ (codes ")" ++ end)))) h.disp.text in
+    memory_split m end ∙ ap (λ t. t ++ (codes "(" ++ ((codes "%" ++ (reg_name m.base ++ index_text m.index)) ++ (codes ")" ++ end)))) h.disp.text in
     let first = and_parts (is_plain h.disp.first) _ (subst (λ t. list_all is_plain t ≡ true) h.disp.text h.disp.plain) in
     ap part_of text ∙ starts_memory h.disp.first _ first.0 ∙ ap (λ t. option_map Memory (memory t)) (sym text) ∙ ap (λ o. option_map Memory o) (memory_back m end h)
 
@@ -154,7 +154,7 @@ part_lacks (Wide x) h = lacks_plain 32 (xmm_name x) refl (xmm_plain x)
 part_lacks (Number z) h = lacks_plain 32 (signed_decimal z) refl h.plain
 part_lacks (Memory m) h =
     lacks_append 32 (signed_decimal m.disp) (codes "(%" ++ (reg_name m.base ++ (index_text m.index ++ codes ")"))) (lacks_plain 32 (signed_decimal m.disp) refl h.disp.plain)
-      (lacks_append 32 (reg_name m.base) (index_text m.index ++ codes ")") (lacks_plain 32 (reg_name m.base) refl (reg_plain m.base)) (lacks_append 32 (index_text m.index) (codes ")") (lacks_index_blank m.index h.scale) refl))
+    (lacks_append 32 (reg_name m.base) (index_text m.index ++ codes ")") (lacks_plain 32 (reg_name m.base) refl (reg_plain m.base)) (lacks_append 32 (index_text m.index) (codes ")") (lacks_index_blank m.index h.scale) refl))
 
 -- the text behind an operand and its comma
 next_part : (p : Part) (rest : List ℕ) → Legible p → cut 32 (part_text p ++ (codes ", " ++ rest)) ≡ Some (part_text p ++ codes ",", rest)

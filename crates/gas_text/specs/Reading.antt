@@ -1,5 +1,5 @@
 -- How lines are read, one after the other.
-use Rattle.std.specs.Prelude.{ℕ, ◌+◌, ◌-◌, ◌^◌, pos, Bool, not, ◌&&◌, ◌==◌, List, [], ◌∷◌, ◌++◌, take, drop, map, codes, Option, Some, None, option_map, option_and_then, if◌then◌else◌}
+use Rattle.std.specs.Prelude.{ℕ, ◌-◌, ◌^◌, pos, not, ◌&&◌, ◌==◌, List, [], ◌∷◌, ◌++◌, take, drop, codes, Option, Some, None, option_map, option_and_then, if◌then◌else◌}
 use Rattle.std.specs.Str.{bytes_eq}
 use Rattle.x64_syntax.specs.declared.items.Item.{Item}
 use Rattle.x64_syntax.specs.declared.items.Item.TheVariants as item

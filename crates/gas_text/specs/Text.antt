@@ -1,5 +1,5 @@
 -- What a text in GAS syntax reads as.
-use Rattle.std.specs.Prelude.{◌≡◌, ℕ, ◌+◌, ◌==◌, true, List, [], ◌∷◌, ◌++◌, take, codes, Option, Some, Result, Ok, Err, if◌then◌else◌}
+use Rattle.std.specs.Prelude.{◌≡◌, ℕ, ◌+◌, ◌==◌, true, List, [], ◌∷◌, ◌++◌, take, codes, Some, Result, Ok, Err, if◌then◌else◌}
 use Rattle.x64_syntax.specs.declared.items.Item.{Item}
 use Rattle.x64_syntax.specs.Programs.{is_ordered, stray_jump, program_ok}
 use Rattle.gas_text.specs.declared.fault.AsmFault.{AsmFault}

@@ -44,19 +44,40 @@ fn check_bad_line(rt: &impl Abort, alloc: Global, line: &str) -> Result<(), Fail
 fn reads_and_prints_instructions_of_one_or_two_operands(rt: HostRuntime) -> Result<(), Fail> {
     for (line, listing) in [
         ("\tmovq %rcx, %rax", "Mov64(rax, rcx)"),
-        ("\tmovabsq $18446744073709551615, %rax", "Mov64(rax, 18446744073709551615)"),
+        (
+            "\tmovabsq $18446744073709551615, %rax",
+            "Mov64(rax, 18446744073709551615)",
+        ),
         ("\tmovabsq $0, %r15", "Mov64(r15, 0)"),
-        ("\tmovabsq $9223372036854775808, %rbp", "Mov64(rbp, 9223372036854775808)"),
-        ("\tmovq -2147483648(%rsi), %rax", "Mov64(rax, (rsi, -2147483648))"),
-        ("\tmovq %r10, 0(%rdi,%r8,8)", "Store64((rdi, r8, 8, 0), r10)"),
-        ("\tmovq %r10, 2147483647(%r9)", "Store64((r9, 2147483647), r10)"),
-        ("\tleaq 16(%rdi,%r8,1), %rax", "Lea64(rax, (rdi, r8, 1, 16))"),
+        (
+            "\tmovabsq $9223372036854775808, %rbp",
+            "Mov64(rbp, 9223372036854775808)",
+        ),
+        (
+            "\tmovq -2147483648(%rsi), %rax",
+            "Mov64(rax, (rsi, -2147483648))",
+        ),
+        (
+            "\tmovq %r10, 0(%rdi,%r8,8)",
+            "Store64((rdi, r8, 8, 0), r10)",
+        ),
+        (
+            "\tmovq %r10, 2147483647(%r9)",
+            "Store64((r9, 2147483647), r10)",
+        ),
+        (
+            "\tleaq 16(%rdi,%r8,1), %rax",
+            "Lea64(rax, (rdi, r8, 1, 16))",
+        ),
         ("\tcmovae %r10, %rax", "Cmovae(rax, r10)"),
         ("\tcmovb %r10, %rax", "Cmovb(rax, r10)"),
         ("\tpushq %rbx", "Push64(rbx)"),
         ("\tpopq %rbx", "Pop64(rbx)"),
         ("\taddq $-2147483648, %rax", "Add64(rax, -2147483648)"),
-        ("\tadcq 8(%rsi,%rcx,2), %rax", "Adc64(rax, (rsi, rcx, 2, 8))"),
+        (
+            "\tadcq 8(%rsi,%rcx,2), %rax",
+            "Adc64(rax, (rsi, rcx, 2, 8))",
+        ),
         ("\tsbbq %rcx, %rax", "Sbb64(rax, rcx)"),
         ("\tcmpq $2147483647, %rax", "Cmp64(rax, 2147483647)"),
         ("\txorq %rax, %rax", "Xor64(rax, rax)"),
@@ -73,16 +94,28 @@ fn reads_and_prints_instructions_of_one_or_two_operands(rt: HostRuntime) -> Resu
 #[test]
 fn reads_and_prints_products_and_xmm_instructions(rt: HostRuntime) -> Result<(), Fail> {
     for (line, listing) in [
-        ("\timulq 0(%rsi,%rcx,4), %rax", "Imul64(rax, (rsi, rcx, 4, 0))"),
+        (
+            "\timulq 0(%rsi,%rcx,4), %rax",
+            "Imul64(rax, (rsi, rcx, 4, 0))",
+        ),
         ("\tmulq %r8", "Mul64(r8)"),
         ("\tmulq 8(%r12)", "Mul64((r12, 8))"),
         ("\tmulxq %rcx, %r10, %rax", "Mulx64(rax, r10, rcx)"),
-        ("\tmulxq 24(%rsi), %r10, %rax", "Mulx64(rax, r10, (rsi, 24))"),
+        (
+            "\tmulxq 24(%rsi), %r10, %rax",
+            "Mulx64(rax, r10, (rsi, 24))",
+        ),
         ("\tadcxq %rcx, %rax", "Adcx64(rax, rcx)"),
         ("\tadoxq -8(%rcx), %rax", "Adox64(rax, (rcx, -8))"),
         ("\tmovdqu %xmm12, %xmm0", "Movdqu(xmm0, xmm12)"),
-        ("\tmovdqu -2147483648(%rsi), %xmm0", "Movdqu(xmm0, (rsi, -2147483648))"),
-        ("\tmovdqu %xmm12, 0(%rdi,%r8,8)", "Movdqu((rdi, r8, 8, 0), xmm12)"),
+        (
+            "\tmovdqu -2147483648(%rsi), %xmm0",
+            "Movdqu(xmm0, (rsi, -2147483648))",
+        ),
+        (
+            "\tmovdqu %xmm12, 0(%rdi,%r8,8)",
+            "Movdqu((rdi, r8, 8, 0), xmm12)",
+        ),
         ("\tpxor %xmm15, %xmm1", "Pxor(xmm1, xmm15)"),
         ("\tpunpckhqdq %xmm12, %xmm0", "Punpckhqdq(xmm0, xmm12)"),
         ("\tpshufd $255, %xmm12, %xmm0", "Pshufd(xmm0, xmm12, 255)"),
@@ -279,12 +312,24 @@ fn refuses_whole_texts_at_their_first_fault(rt: HostRuntime) {
         (".text\n.globl f\nf:\n.globl f\nf:\n", AsmFault::Line(4)),
         (".text\n.globl f\nf:\n.globl F\nf:\n", AsmFault::Line(5)),
         (".text\n.globl f\nf:\nL0:\nL0:\n", AsmFault::Line(5)),
-        (".text\n.globl f\nf:\nL0:\n.globl g\ng:\nL0:\n", AsmFault::Line(7)),
+        (
+            ".text\n.globl f\nf:\nL0:\n.globl g\ng:\nL0:\n",
+            AsmFault::Line(7),
+        ),
         (".text\n.globl f\nf:\n\tjmp L0\n", AsmFault::Label(4)),
-        (".text\n.globl f\nf:\nL0:\n.globl g\ng:\n\tret\n\tje L0\n", AsmFault::Label(8)),
-        (".text\n.globl f\nf:\n\tjmp L0\n.globl g\ng:\nL0:\n", AsmFault::Label(4)),
+        (
+            ".text\n.globl f\nf:\nL0:\n.globl g\ng:\n\tret\n\tje L0\n",
+            AsmFault::Label(8),
+        ),
+        (
+            ".text\n.globl f\nf:\n\tjmp L0\n.globl g\ng:\nL0:\n",
+            AsmFault::Label(4),
+        ),
         (".text\n.globl f\nf:\n\tjmp L0\nL1:\n", AsmFault::Line(5)),
-        (".text\n.globl f\nf:\n\tja L4294967295\n", AsmFault::Label(4)),
+        (
+            ".text\n.globl f\nf:\n\tja L4294967295\n",
+            AsmFault::Label(4),
+        ),
     ] {
         match read(rt.alloc(), text.as_bytes()) {
             Ok(_) => panic!(rt; "{text} is read"),
@@ -299,8 +344,14 @@ fn reads_and_prints_whole_programs(rt: HostRuntime) -> Result<(), Fail> {
         (".text\n", 0),
         (".text\n.globl f\nf:\n", 1),
         (".text\n.globl f\nf:\n\tret\n.globl F\nF:\n\tret\n", 4),
-        (".text\n.globl gcm_1\ngcm_1:\n\tjmp L1\nL0:\n\tnegq %rax\nL1:\n\tjne L0\n\tret\n", 7),
-        (".text\n.globl f\nf:\nL0:\n\tjae L0\n.globl g\ng:\n\tjbe L1\nL1:\n\tret\n", 7),
+        (
+            ".text\n.globl gcm_1\ngcm_1:\n\tjmp L1\nL0:\n\tnegq %rax\nL1:\n\tjne L0\n\tret\n",
+            7,
+        ),
+        (
+            ".text\n.globl f\nf:\nL0:\n\tjae L0\n.globl g\ng:\n\tjbe L1\nL1:\n\tret\n",
+            7,
+        ),
     ] {
         let Ok(items) = read(rt.alloc(), text.as_bytes()) else {
             panic!(rt; "{text} isn't read");

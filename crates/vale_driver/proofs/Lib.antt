@@ -4,8 +4,6 @@ pub mod Pieces
 pub mod CertificateLaws
 pub mod RingSound
 pub mod RingCode
-pub mod Spelled
-pub mod Lines
 pub mod ReadLaws
 pub mod Puts
 pub mod Going

@@ -1,11 +1,9 @@
 -- Lines that are put, one after another.
-use Rattle.std.proofs.Common.{◌≡◌, ℕ, zero, suc, ◌+◌, ◌-◌, ◌≤◌, ◌<◌, min, List, [], ◌∷◌, ◌++◌, length, take, drop, Option, Some, None, refl, sym, ap, ◌∙◌, arith, append_assoc, length-append, length-take, get_or}
-use Rattle.std.proofs.lemmas.List.{append-nil}
+use Rattle.std.proofs.Common.{◌≡◌, ℕ, zero, suc, ◌+◌, ◌-◌, ◌≤◌, ◌<◌, min, List, [], ◌∷◌, ◌++◌, length, take, drop, Option, Some, None, refl, sym, ap, ◌∙◌, subst, arith, append_assoc, length-append, length-take, get_or}
+use Rattle.std.proofs.lemmas.List.{append-nil, take-append-drop}
 use Rattle.std.proofs.Math.Seq.{take-append-add}
 use Rattle.std.proofs.lemmas.List.{take-append-le}
-use native.Mathlib.Numerals.{unary_clauses}
 use Rattle.vale_outside.specs.Outside.{Appends, AppendsFront}
-use Rattle.vale_driver.specs.Assembly.{joined}
 
 pub appends_none : (told : Option (List ℕ)) → Appends told told []
 appends_none None = refl
@@ -32,21 +30,30 @@ front_next None mid new x y z h k = rw h at k
 front_next (Some told) mid None x y z h k = rw h at k
 front_next (Some told) mid (Some now) x y z h k = let front = rw h at k in front_bytes told now x y z front
 
-n≮0 : {n : ℕ} → n < 0 → ⊥
-n≮0 h = omega arith
+-- a front of the text is written, and this is the rest
+pub record Written (old now : Option (List ℕ)) (text rest : List ℕ) : Type 0 where
+  pub front : List ℕ
+  pub whole : text ≡ front ++ rest
+  pub appends : Appends old now front
 
-take_one : (n : ℕ) (ls : List (List ℕ)) (d : List ℕ) → n < length ls → joined (take (suc n) ls) ≡ joined (take n ls) ++ get_or ls n d
-take_one n [] d h = absurd (n≮0 h)
-take_one zero (l ∷ ls) d h = append-nil l
-take_one (suc n) (l ∷ ls) d h = ap (λ x. l ++ x) (take_one n ls d (omega arith)) ∙ sym (append_assoc l (joined (take n ls)) (get_or ls n d))
+pub written_none : (told : Option (List ℕ)) (text : List ℕ) → Written told told text text
+written_none told text = record { front = []; whole = refl; appends = appends_none told }
 
-pub joined_take : (n : ℕ) (ls : List (List ℕ)) (l : List ℕ) → n < length ls → l ≡ get_or ls n l → joined (take (n + 1) ls) ≡ joined (take n ls) ++ l
-joined_take n ls l h e = simp unary_clauses (take_one n ls l h) ∙ ap (λ x. joined (take n ls) ++ x) (sym e)
+-- another piece
+pub written_next : (old mid new : Option (List ℕ)) (text rest line behind : List ℕ) → Written old mid text rest → rest ≡ line ++ behind → Appends mid new line → Written old new text behind
+written_next old mid new text rest line behind w split a = record {
+  front = w.front ++ line;
+  whole = w.whole ∙ ap (λ r. w.front ++ r) split ∙ sym (append_assoc w.front line behind);
+  appends = appends_next old mid new w.front line w.appends a;
+}
 
-split_one : (n : ℕ) (ls : List (List ℕ)) (d : List ℕ) → n < length ls → joined (take n ls) ++ (get_or ls n d ++ joined (drop (suc n) ls)) ≡ joined ls
-split_one n [] d h = absurd (n≮0 h)
-split_one zero (l ∷ ls) d h = refl
-split_one (suc n) (l ∷ ls) d h = append_assoc l (joined (take n ls)) (get_or ls n d ++ joined (drop (suc n) ls)) ∙ ap (λ x. l ++ x) (split_one n ls d (omega arith))
+-- and a front of a piece
+pub written_front : (old mid new : Option (List ℕ)) (text rest line behind : List ℕ) → Written old mid text rest → rest ≡ line ++ behind → AppendsFront mid new line → AppendsFront old new text
+written_front old mid new text rest line behind w split a =
+    subst (AppendsFront old new) (sym (w.whole ∙ ap (λ r. w.front ++ r) split)) (front_next old mid new w.front line behind w.appends a)
 
-pub joined_split : (n : ℕ) (ls : List (List ℕ)) (l : List ℕ) → n < length ls → l ≡ get_or ls n l → joined (take n ls) ++ (l ++ joined (drop (n + 1) ls)) ≡ joined ls
-joined_split n ls l h e = ap (λ x. joined (take n ls) ++ (x ++ joined (drop (n + 1) ls))) e ∙ simp unary_clauses (split_one n ls l h)
+pub written_whole : (old now : Option (List ℕ)) (text rest : List ℕ) → Written old now text rest → rest ≡ [] → Appends old now text
+written_whole old now text rest w empty = subst (Appends old now) (sym (w.whole ∙ ap (λ r. w.front ++ r) empty ∙ append-nil w.front)) w.appends
+
+pub taken_apart : (k : ℕ) (rest line behind : List ℕ) → line ≡ take k rest → behind ≡ drop k rest → rest ≡ line ++ behind
+taken_apart k rest line behind e f = sym (take-append-drop k rest) ∙ ap (λ l. l ++ drop k rest) (sym e) ∙ ap (λ b. line ++ b) (sym f)

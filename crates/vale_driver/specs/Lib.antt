@@ -5,7 +5,6 @@ pub mod Ring
 pub mod RingCode
 pub mod Build
 pub mod Terms
-pub mod Assembly
 pub mod Outcome
 pub mod Codes
 pub mod Stops

@@ -12,7 +12,7 @@ use Rattle.vale_driver.specs.Sources.{Source, numbered, refusal, IsShort, Spells
 use Rattle.vale_driver.specs.Certificate.{Pair, Proves}
 use Rattle.vale_driver.specs.Ring.{ring_closes}
 use Rattle.vale_driver.specs.Build.{contract_of, condition_hyps, condition_goal, lowered}
-use Rattle.vale_driver.specs.Assembly.{ReadsAs}
+use Rattle.gas_text.specs.Text.{ReadsAs}
 
 -- the files that the words of a build name
 pub record Build : Type 0 where

@@ -1,4 +1,4 @@
-// A build, as far as the lines that are to be written.
+// A build, as far as the text that is to be written.
 
 ghost use Rattle.std.specs.Prelude.{◌≡◌, ℕ, true, List, ◌≤◌, ◌<◌, ◌^◌, length, IsTrue, IfOk, IfErr, IfSome};
 ghost use Rattle.std.specs.List.{AllByRecursion, list_all};
@@ -8,20 +8,19 @@ ghost use Rattle.vale_driver.specs.Certificate.{Pair, Proves};
 ghost use Rattle.vale_driver.specs.Ring.{ring_closes};
 ghost use Rattle.vale_driver.specs.Terms.{is_built};
 ghost use Rattle.vale_driver.specs.Build.{condition_hyps, condition_goal};
-ghost use Rattle.vale_driver.specs.Assembly.{joined};
 ghost use Rattle.vale_driver.specs.Phases.{texts, build_of};
 ghost use Rattle.vale_driver.specs.Outcome.{IsBuilt, IsRefused, certificate_refusal, step_refusal};
 ghost use Rattle.vale_driver.specs.Stops.{StopsBy, CertificateHeld, CertificateRefusal};
 
 use crate::certificate::{CertificateFault, Pair, read_certificate};
 use crate::condition::condition;
-use crate::gas::print;
 use crate::lower::lower;
 use crate::ring::ring_closes;
 use crate::sources::read_sources;
 use crate::status::Refusal;
 use crate::stop::{Stop, fetch, refusal};
 use crate::words::BuildWords;
+use gas_text::print;
 use std::alloc::{AllocError, Global};
 use straight_line::StraightLine;
 use vale_outside::Store;
@@ -84,16 +83,16 @@ fn closes(alloc: Global, program: &StraightLine, steps: &[Pair]) -> Result<bool,
     ring_closes(alloc, sequent.hyps.as_slice(), &sequent.goal, steps)
 }
 
-/// The lines that a build writes.
+/// The text that a build writes.
 pub(crate) fn build<S: Store>(
     alloc: Global,
     store: &mut S,
     words: BuildWords<'_>,
-) -> Result<Vec<Text>, Stop>
+) -> Result<Vec<u8>, Stop>
     requires few { length words.files.now ≤ 16 }
     requires cert { IsTrue (S.may_ask store.old words.cert.now) }
     requires files { AllByRecursion (λ f. IsTrue (S.may_ask store.old f)) (texts words.files.now) }
-    ensures built { IfOk result (λ lines. IsBuilt (S.tells store.old) (build_of words.entry) (joined lines.items)) }
+    ensures built { IfOk result (λ text. IsBuilt (S.tells store.old) (build_of words.entry) text.items) }
     ensures stops { IfErr result (StopsBy (IsRefused (S.tells store.old) (build_of words.entry)) (Rose (S.faults store.old) (S.faults store.new))) }
     ensures count { S.faults store.old ≤ S.faults store.new }
 {

@@ -4,7 +4,6 @@
 mod build;
 mod certificate;
 mod condition;
-mod gas;
 mod lower;
 mod program;
 mod reading;

@@ -2,7 +2,6 @@
 
 ghost use Rattle.std.specs.Prelude.{◌≡◌, ◌≤◌, length, Some, IsTrue, IfSome, ◌⊎◌};
 ghost use Rattle.std.specs.List.{AllByRecursion};
-ghost use Rattle.vale_driver.specs.Assembly.{joined};
 ghost use Rattle.vale_driver.specs.Outcome.{form, usage_line, read_fault_line, refusal_line};
 ghost use Rattle.vale_driver.specs.Phases.{texts, build_of};
 ghost use Rattle.vale_driver.specs.Ends.{Ends, Exactly, SaysOr};
@@ -14,7 +13,6 @@ use crate::stop::Stop;
 use crate::words::{BuildWords, read_words};
 use std::alloc::Global;
 use vale_outside::{Sink, Store};
-use x64_syntax::Text;
 
 const USAGE: &[u8] = b"usage: vale COMMAND [OPTIONS] FILE..\n";
 
@@ -57,7 +55,7 @@ fn run_build<S: Store, O: Sink, E: Sink>(
     ensures { Ends (Some (build_of words.entry)) record { tells = S.tells store.old; store_old = S.faults store.old; store_new = S.faults store.new; out_old = O.faults out.old; out_new = O.faults out.new; err_old = E.faults err.old; err_new = E.faults err.new } record { out_old = O.told out.old; out_new = O.told out.new; err_old = E.told err.old; err_new = E.told err.new } result }
 {
     match build(alloc, store, words) {
-        Ok(lines) => finish(out, &lines),
+        Ok(text) => finish(out, &text),
         Err(Stop::Refused(refusal)) => refuse(alloc, err, refusal),
         Err(Stop::ReadFault) => say(err, READ_FAULT, Status::ReadFault),
         Err(Stop::NoMemory) => Status::NoMemory,
@@ -74,10 +72,10 @@ fn say<E: Sink>(err: &mut E, line: &[u8], status: Status) -> Status
     }
 }
 
-fn finish<O: Sink>(out: &mut O, lines: &[Text]) -> Status
-    ensures { SaysOr Status.Done (O.told out.old) (O.told out.new) (O.faults out.old) (O.faults out.new) (joined lines.now) result }
+fn finish<O: Sink>(out: &mut O, text: &[u8]) -> Status
+    ensures { SaysOr Status.Done (O.told out.old) (O.told out.new) (O.faults out.old) (O.faults out.new) text.now result }
 {
-    match write_lines(out, lines) {
+    match write_lines(out, text) {
         Ok(()) => Status::Done,
         Err(_) => Status::WriteFault,
     }

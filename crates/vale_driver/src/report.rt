@@ -2,11 +2,11 @@
 
 ghost use Rattle.std.specs.Prelude.{◌≡◌, ℕ, ◌≤◌, ◌++◌, decimal, codes, IfOk, OnOk, OnErr};
 ghost use Rattle.vale_outside.specs.Outside.{Rose, Appends, AppendsFront};
-ghost use Rattle.vale_driver.specs.Assembly.{joined};
 ghost use Rattle.vale_driver.specs.Outcome.{refusal_line, or_dash, number_or_dash};
 
 use crate::status::Refusal;
 use itoa::Buffer;
+use memchr::memchr;
 use std::alloc::{AllocError as NoMemory, Global};
 use vale_outside::{PutFault, Sink};
 use x64_syntax::Text;
@@ -56,14 +56,20 @@ fn push_cause(line: &mut Vec<u8>, cause: &Text) -> Result<(), NoMemory>
     line.extend_from_slice(b"\n")
 }
 
-/// Writes lines, each with one call, as far as the first that fails.
-pub(crate) fn write_lines<O: Sink>(out: &mut O, lines: &[Text]) -> Result<(), PutFault>
-    ensures ok { OnOk result (Appends (O.told out.old) (O.told out.new) (joined lines.now)) }
+/// Writes a text, each line with one call, as far as the first that fails.
+pub(crate) fn write_lines<O: Sink>(out: &mut O, text: &[u8]) -> Result<(), PutFault>
+    ensures ok { OnOk result (Appends (O.told out.old) (O.told out.new) text.now) }
     ensures failed { OnErr result (Rose (O.faults out.old) (O.faults out.new)) }
-    ensures front { OnErr result (AppendsFront (O.told out.old) (O.told out.new) (joined lines.now)) }
+    ensures front { OnErr result (AppendsFront (O.told out.old) (O.told out.new) text.now) }
 {
-    for line in lines {
-        out.put(line.as_bytes())?;
+    let mut rest = text;
+    while let Some(end) = memchr(b'\n', rest) {
+        let (line, behind) = rest.split_at(end + 1);
+        out.put(line)?;
+        rest = behind;
+    }
+    if !rest.is_empty() {
+        out.put(rest)?;
     }
     Ok(())
 }

@@ -1,4 +1,4 @@
-use Rattle.std.proofs.Common.{◌+◌, drop, ap, ◌∙◌, arith, length}
+use Rattle.std.proofs.Common.{◌+◌, drop, ap, arith, length}
 use Rattle.x64_syntax.proofs.Pieces.{turn}
 use Rattle.gas_text.specs.Gas.{lines}
 use Rattle.gas_text.proofs.Counting.{counted, one_line}

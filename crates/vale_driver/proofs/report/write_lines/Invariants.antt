@@ -1,11 +1,13 @@
-use Rattle.std.proofs.Common.{◌≤◌, take}
-use Rattle.vale_outside.specs.Outside.{Appends}
-use Rattle.vale_driver.specs.Assembly.{joined}
+use Rattle.std.proofs.Common.{◌≤◌, length}
+use Rattle.vale_driver.proofs.Puts.{Written}
 use Rattle.vale_driver.proofs.report.write_lines.Given as goal
 
 -- the lines so far are put, and no count fell
-abbrev pub invariant-loop-line : goal.invariant-loop-line
-invariant-loop-line g l = record {
-  appends : Appends (g.O.Sink.told l.fn.out) (g.O.Sink.told l.out) (joined (take l.line-index l.lines));
+abbrev pub invariant-loop-end : goal.invariant-loop-end
+invariant-loop-end g l = record {
+  written : Written (g.O.Sink.told l.fn.out) (g.O.Sink.told l.out) l.text l.rest;
   count : g.O.Sink.faults l.fn.out ≤ g.O.Sink.faults l.out;
 }
+
+abbrev pub decreases-loop-end : goal.decreases-loop-end
+decreases-loop-end g l = length l.rest

@@ -1,4 +1,4 @@
-use Rattle.std.proofs.Common.{◌≡◌, sym, ap, ◌∙◌, arith, [], ◌∷◌, ◌++◌, length, length-append}
+use Rattle.std.proofs.Common.{sym, ap, ◌∙◌, arith, [], ◌∷◌, ◌++◌, length, length-append}
 use Rattle.x64_syntax.specs.LabelCount.{label_count}
 use Rattle.gas_text.specs.Reading.{entry_names}
 use Rattle.gas_text.proofs.Counts.{count_last, count_one, read_coded, names_code}
