@@ -3,18 +3,14 @@ use Rattle.std.proofs.Common.{◌≡◌, ℕ, zero, suc, ◌<◌, Bool, true, fa
 use Rattle.std.specs.Prelude.{◌==◌, ◌&&◌, ◌||◌, not, slice_index, option_map, if◌then◌else◌}
 use Rattle.std.specs.List.{list_all}
 use Rattle.std.proofs.lemmas.List.{append-nil}
-use Rattle.std.proofs.lemmas.Bool.{and_parts, and_from, eqb-true, eq-eqb, false≢true}
+use Rattle.std.proofs.lemmas.Bool.{and_parts, and_from, eqb-true, eq-eqb, false≢true, not-true, false_from_ne_true}
 use Rattle.x64_syntax.specs.Words.{is_name_byte}
 use Rattle.gas_text.specs.Apart.{cut, before_comma, front_of}
-
-is_false : (b : Bool) → (b ≡ true → ⊥) → b ≡ false
-is_false true no_ = absurd (no_ refl)
-is_false false no_ = refl
 
 pub cut_nowhere : (b : ℕ) (xs : List ℕ) → ((k : ℕ) → k < length xs → (slice_index xs k == b) ≡ true → ⊥) → cut b xs ≡ None
 cut_nowhere b [] no_ = refl
 cut_nowhere b (x ∷ xs) no_ =
-    let other = is_false (x == b) (no_ 0 (omega arith)) in
+    let other = false_from_ne_true (x == b) (no_ 0 (omega arith)) in
     ap (λ (t : Bool). if t then Some ([], xs) else option_map (λ p. (x ∷ p.0, p.1)) (cut b xs)) other
     ∙ ap (λ o. option_map (λ p. (x ∷ p.0, p.1)) o) (cut_nowhere b xs (λ k lt. no_ (suc k) (omega (arith, lt))))
 
@@ -22,7 +18,7 @@ pub cut_first : (b : ℕ) (xs : List ℕ) (k : ℕ) → k < length xs → ((j : 
 cut_first b [] k lt before at = absurd (omega (arith, lt))
 cut_first b (x ∷ xs) zero lt before at = ap (λ (t : Bool). if t then Some ([], xs) else option_map (λ p. (x ∷ p.0, p.1)) (cut b xs)) at
 cut_first b (x ∷ xs) (suc k) lt before at =
-    let other = is_false (x == b) (before 0 (omega arith)) in
+    let other = false_from_ne_true (x == b) (before 0 (omega arith)) in
     ap (λ (t : Bool). if t then Some ([], xs) else option_map (λ p. (x ∷ p.0, p.1)) (cut b xs)) other
     ∙ ap (λ o. option_map (λ p. (x ∷ p.0, p.1)) o) (cut_first b xs k (omega (arith, lt)) (λ j lt_j. before (suc j) (omega (arith, lt_j))) at)
 
@@ -34,10 +30,6 @@ lacks b (x ∷ xs) = not (x == b) && lacks b xs
 pub lacks_append : (b : ℕ) (xs ys : List ℕ) → lacks b xs ≡ true → lacks b ys ≡ true → lacks b (xs ++ ys) ≡ true
 lacks_append b [] ys h k = k
 lacks_append b (x ∷ xs) ys h k = let p = and_parts (not (x == b)) _ h in and_from _ _ p.0 (lacks_append b xs ys p.1 k)
-
-is_not : (b : Bool) → not b ≡ true → b ≡ false
-is_not true h = absurd (false≢true h)
-is_not false h = refl
 
 -- a longer front
 abbrev pub behind : List ℕ → Option (List ℕ × List ℕ) → Option (List ℕ × List ℕ)
@@ -52,7 +44,7 @@ cut_behind b [] rest h = same (cut b rest) where
   same (Some p) = refl
 cut_behind b (x ∷ xs) rest h =
     let p = and_parts (not (x == b)) _ h in
-    ap (λ (t : Bool). if t then Some ([], xs ++ rest) else option_map (λ p. (x ∷ p.0, p.1)) (cut b (xs ++ rest))) (is_not (x == b) p.0)
+    ap (λ (t : Bool). if t then Some ([], xs ++ rest) else option_map (λ p. (x ∷ p.0, p.1)) (cut b (xs ++ rest))) (not-true (x == b) p.0)
     ∙ ap (λ o. option_map (λ p. (x ∷ p.0, p.1)) o) (cut_behind b xs rest p.1)
     ∙ twice (cut b rest)
   where
@@ -70,7 +62,7 @@ pub cut_none : (b : ℕ) (text : List ℕ) → lacks b text ≡ true → cut b t
 cut_none b [] h = refl
 cut_none b (x ∷ xs) h =
     let p = and_parts (not (x == b)) _ h in
-    ap (λ (t : Bool). if t then Some ([], xs) else option_map (λ p. (x ∷ p.0, p.1)) (cut b xs)) (is_not (x == b) p.0)
+    ap (λ (t : Bool). if t then Some ([], xs) else option_map (λ p. (x ∷ p.0, p.1)) (cut b xs)) (not-true (x == b) p.0)
     ∙ ap (λ o. option_map (λ p. (x ∷ p.0, p.1)) o) (cut_none b xs p.1)
 
 -- the bytes of names and numbers
@@ -78,7 +70,7 @@ abbrev pub is_plain : ℕ → Bool
 is_plain b = is_name_byte b || (b == 45)
 
 pub differ : (x b : ℕ) → is_plain x ≡ true → is_plain b ≡ false → (x == b) ≡ false
-differ x b p q = is_false (x == b) (λ e. false≢true (sym q ∙ ap is_plain (sym (eqb-true x b e)) ∙ p))
+differ x b p q = false_from_ne_true (x == b) (λ e. false≢true (sym q ∙ ap is_plain (sym (eqb-true x b e)) ∙ p))
 
 pub lacks_plain : (b : ℕ) (xs : List ℕ) → is_plain b ≡ false → list_all is_plain xs ≡ true → lacks b xs ≡ true
 lacks_plain b [] q h = refl

@@ -1,47 +1,33 @@
 -- The lines of a text: each without a newline of its own.
-use Rattle.std.proofs.Common.{◌≡◌, ℕ, ◌+◌, Bool, true, false, List, [], ◌∷◌, ◌++◌, refl, sym, ap, ◌∙◌, arith, length, decimal, pos, ◌^◌}
-use Rattle.std.specs.Prelude.{◌||◌, ◌==◌, not, nat_lt, codes, Option, Some, None, IfSome, is_ok, if◌then◌else◌}
-use Rattle.std.specs.Fmt.{signed_decimal}
+use Rattle.std.proofs.Common.{◌≡◌, ℕ, ◌+◌, Bool, true, false, List, [], ◌∷◌, ◌++◌, refl, sym, ap, ◌∙◌, arith, length, decimal, ◌^◌}
+use Rattle.std.specs.Prelude.{◌||◌, ◌==◌, not, nat_lt, codes, Option, Some, None, is_ok, if◌then◌else◌}
 use Rattle.std.specs.List.{list_all}
 use Rattle.std.proofs.lemmas.Bool.{and_parts, and_from, false≢true, ltb-true}
 use Rattle.std.proofs.lemmas.List.{append-nil, append_assoc}
-use Rattle.x64_syntax.specs.declared.places.Reg.{Reg as GeneralReg}
 use Rattle.x64_syntax.specs.declared.conditions.Cond.{Cond}
 use Rattle.x64_syntax.specs.declared.conditions.Cond.TheVariants as condition
 use Rattle.x64_syntax.specs.declared.instructions.Ins.{Ins}
 use Rattle.x64_syntax.specs.declared.items.Item.{Item}
 use Rattle.x64_syntax.specs.declared.items.Item.TheVariants as item
-use Rattle.x64_syntax.specs.Places.{reg_name, xmm_name}
 use Rattle.x64_syntax.specs.Words.{is_export_text, is_name_byte}
 use Rattle.x64_syntax.specs.Instructions.{form_of}
 use Rattle.x64_syntax.specs.Programs.{is_item}
 use Rattle.asm_lines.specs.declared.forms.Part.{Part}
-use Rattle.asm_lines.specs.declared.forms.Part.TheVariants.{General, Wide, Number, Memory}
 use Rattle.asm_lines.specs.declared.forms.Parts.{Parts}
 use Rattle.asm_lines.specs.declared.forms.Parts.TheVariants.{One, Two, Three}
 use Rattle.asm_lines.specs.declared.lines.Syntax.TheVariants.{Gas}
-use Rattle.asm_lines.specs.Operands.{operands, at_most}
+use Rattle.asm_lines.specs.Operands.{operands}
 use Rattle.asm_lines.specs.Lines.{mnemonic}
-use Rattle.gas_text.specs.Gas.{index_text, part_text, operands_text, line, lines, unlines, items_text}
+use Rattle.gas_text.specs.Gas.{part_text, operands_text, line, lines, unlines, items_text}
 use Rattle.gas_text.specs.Text.{newlines}
 use Rattle.gas_text.specs.Apart.{cut}
 use Rattle.gas_text.proofs.Cuts.{is_plain, lacks, lacks_append, lacks_plain, cut_at}
-use Rattle.gas_text.proofs.Names.{reg_plain, xmm_plain}
-use Rattle.gas_text.proofs.Operands.{Readable, readable_pos, Legible, AllLegible}
+use Rattle.gas_text.proofs.Operands.{readable_pos, Legible, AllLegible, part_lacks, newline_outside}
 use Rattle.gas_text.proofs.Built.{back}
 use Rattle.gas_text.proofs.Found.{mnemonic_clean}
 
-index_clean : (i : Option (GeneralReg × ℕ)) → IfSome i (λ i. Readable (pos i.1) × (at_most 255 (pos i.1) ≡ Some i.1)) → lacks 10 (index_text i) ≡ true
-index_clean None k = refl
-index_clean (Some i) k = lacks_append 10 (reg_name i.0) (codes "," ++ decimal i.1) (lacks_plain 10 (reg_name i.0) refl (reg_plain i.0)) (lacks_plain 10 (decimal i.1) refl k.0.plain)
-
 part_clean : (p : Part) → Legible p → lacks 10 (part_text p) ≡ true
-part_clean (General r) h = lacks_plain 10 (reg_name r) refl (reg_plain r)
-part_clean (Wide x) h = lacks_plain 10 (xmm_name x) refl (xmm_plain x)
-part_clean (Number z) h = lacks_plain 10 (signed_decimal z) refl h.plain
-part_clean (Memory m) h =
-    lacks_append 10 (signed_decimal m.disp) (codes "(%" ++ (reg_name m.base ++ (index_text m.index ++ codes ")"))) (lacks_plain 10 (signed_decimal m.disp) refl h.disp.plain)
-    (lacks_append 10 (reg_name m.base) (index_text m.index ++ codes ")") (lacks_plain 10 (reg_name m.base) refl (reg_plain m.base)) (lacks_append 10 (index_text m.index) (codes ")") (index_clean m.index h.scale) refl))
+part_clean p h = part_lacks 10 newline_outside p h
 
 operands_clean : (ps : Parts) → AllLegible ps → lacks 10 (operands_text ps) ≡ true
 operands_clean (One a) h = part_clean a h

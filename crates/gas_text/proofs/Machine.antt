@@ -2,7 +2,7 @@
 use Rattle.std.proofs.Common.{◌≡◌, ℕ, ◌+◌, ◌-◌, ◌^◌, Bool, true, false, List, [], ◌∷◌, ◌++◌, refl, sym, ap, ◌∙◌, subst, arith, take, drop, pos}
 use Rattle.std.specs.Prelude.{◌&&◌, ◌==◌, not, nat_lt, codes, Option, Some, None, IfSome, option_map, option_and_then, if◌then◌else◌}
 use Rattle.std.specs.Str.{bytes_eq}
-use Rattle.std.proofs.lemmas.Bool.{and_parts, and_from, false≢true, eqb-true, ltb-true}
+use Rattle.std.proofs.lemmas.Bool.{and_parts, and_from, false≢true, eqb-true, ltb-true, not-true}
 use Rattle.std.proofs.lemmas.List.{append-nil, append_assoc, take-append-drop}
 use Rattle.x64_syntax.specs.declared.items.Item.{Item}
 use Rattle.x64_syntax.specs.declared.items.Item.TheVariants as item
@@ -17,7 +17,7 @@ use Rattle.gas_text.specs.Text.{Begins}
 use Rattle.gas_text.proofs.Built.{at_most_back}
 use Rattle.gas_text.proofs.Found.{found_ins, found_jmp, found_jcc, found_ret}
 use Rattle.gas_text.proofs.Counts.{is_code, Next, is_code_next, read_checked, bytes_from, bytes_same}
-use Rattle.gas_text.proofs.Order.{is_no, Ordered, ordered_parts, ordered_entry, ordered_next, all_behind, entry_behind, labels_behind}
+use Rattle.gas_text.proofs.Order.{Ordered, ordered_parts, ordered_entry, ordered_next, all_behind, entry_behind, labels_behind}
 use Rattle.gas_text.proofs.Lines.{all_lines, text_append, text_one, unlines_append}
 
 abbrev pub start : Sofar
@@ -63,7 +63,7 @@ grows_entry is name l after v e = by_test (bytes_eq l (name ++ codes ":")) refl 
       let lines_is : codes ".globl " ++ (name ++ 10 ∷ ((name ++ codes ":") ++ codes "\n")) ≡ declared ++ ((name ++ codes ":") ++ codes "\n") =
       ap (λ t. codes ".globl " ++ t) (sym (append_assoc name (codes "\n") ((name ++ codes ":") ++ codes "\n"))) in
       subst (λ s. Grows (record { items = is; awaited = Some name }) s l) same (record {
-        valid = record { ordered = ordered_entry is name v.ordered p.0 (is_no _ p.1); fresh = tt };
+        valid = record { ordered = ordered_entry is name v.ordered p.0 (not-true _ p.1); fresh = tt };
         held_ =
             append-nil (items_text (is ++ item.Entry name ∷ [])) ∙ text_append is (item.Entry name ∷ [])
             ∙ ap (λ t. items_text is ++ t) (text_one (item.Entry name) ∙ lines_is)
@@ -157,7 +157,7 @@ begins so v = by_awaited so.items so.awaited v where
       record {
         items = is ++ item.Entry name ∷ [];
         rest = own;
-        ordered = ordered_entry is name v.ordered p.0 (is_no _ p.1);
+        ordered = ordered_entry is name v.ordered p.0 (not-true _ p.1);
         is =
             ap (λ t. codes ".text\n" ++ t)
             (text_append is (item.Entry name ∷ []) ∙ ap (λ t. items_text is ++ t) (text_one (item.Entry name) ∙ ap (λ t. codes ".globl " ++ t) (sym (append_assoc name (codes "\n") own)))

@@ -106,10 +106,13 @@ addressed_back m h = by_index m.index refl h.scale where
       let some : cut 44 (37 ∷ (reg_name m.base ++ 44 ∷ inner)) ≡ Some (37 ∷ reg_name m.base, inner) = cut_at 44 (37 ∷ reg_name m.base) inner (lacks_plain 44 (reg_name m.base) refl (reg_plain m.base)) in
       rw (some, reg_back m.base, scaled_back i.0 i.1 k.0 k.1) (ap (λ j. Some (record { base = m.base; index = j; disp = m.disp })) (sym e))
 
-lacks_index : (i : Option (GeneralReg × ℕ)) → IfSome i (λ i. Readable (pos i.1) × (at_most 255 (pos i.1) ≡ Some i.1)) → lacks 41 (index_text i) ≡ true
-lacks_index None k = refl
-lacks_index (Some i) k =
-    lacks_append 41 (reg_name i.0) (codes "," ++ decimal i.1) (lacks_plain 41 (reg_name i.0) refl (reg_plain i.0)) (lacks_plain 41 (decimal i.1) refl k.0.plain)
+-- an index lacks a byte that isn't one of its own
+lacks_index : (b : ℕ) → is_plain b ≡ false → lacks b (codes ",") ≡ true → lacks b (codes ",%") ≡ true → (i : Option (GeneralReg × ℕ)) → IfSome i (λ i. Readable (pos i.1) × (at_most 255 (pos i.1) ≡ Some i.1)) → lacks b (index_text i) ≡ true
+lacks_index b plain comma percent None k = refl
+lacks_index b plain comma percent (Some i) k =
+    lacks_append b (codes ",%") (reg_name i.0 ++ (codes "," ++ decimal i.1)) percent
+    (lacks_append b (reg_name i.0) (codes "," ++ decimal i.1) (lacks_plain b (reg_name i.0) plain (reg_plain i.0))
+    (lacks_append b (codes ",") (decimal i.1) comma (lacks_plain b (decimal i.1) plain k.0.plain)))
 
 memory_split : (m : Mem) (end : List ℕ) → memory_text m ++ end ≡ signed_decimal m.disp ++ (codes "(" ++ ((codes "%" ++ (reg_name m.base ++ index_text m.index)) ++ (codes ")" ++ end)))
 memory_split m end =
@@ -125,7 +128,7 @@ memory_back m end h =
     let opened : cut 40 (signed_decimal m.disp ++ 40 ∷ (inner ++ 41 ∷ end)) ≡ Some (signed_decimal m.disp, inner ++ 41 ∷ end) =
     cut_at 40 (signed_decimal m.disp) (inner ++ 41 ∷ end) (lacks_plain 40 (signed_decimal m.disp) refl h.disp.plain) in
     let closed : cut 41 (inner ++ 41 ∷ end) ≡ Some (inner, end) =
-    cut_at 41 inner end (lacks_append 41 (reg_name m.base) (index_text m.index) (lacks_plain 41 (reg_name m.base) refl (reg_plain m.base)) (lacks_index m.index h.scale)) in
+    cut_at 41 inner end (lacks_append 41 (reg_name m.base) (index_text m.index) (lacks_plain 41 (reg_name m.base) refl (reg_plain m.base)) (lacks_index 41 refl refl refl m.index h.scale)) in
     ap memory (memory_split m end) ∙ rw (opened, closed, h.disp.back, h.short) (addressed_back m h)
 
 -- a text that begins as a number is a memory operand
@@ -142,25 +145,37 @@ part_back (Memory m) end h e =
     let first = and_parts (is_plain h.disp.first) _ (subst (λ t. list_all is_plain t ≡ true) h.disp.text h.disp.plain) in
     ap part_of text ∙ starts_memory h.disp.first _ first.0 ∙ ap (λ t. option_map Memory (memory t)) (sym text) ∙ ap (λ o. option_map Memory o) (memory_back m end h)
 
-lacks_index_blank : (i : Option (GeneralReg × ℕ)) → IfSome i (λ i. Readable (pos i.1) × (at_most 255 (pos i.1) ≡ Some i.1)) → lacks 32 (index_text i) ≡ true
-lacks_index_blank None k = refl
-lacks_index_blank (Some i) k =
-    lacks_append 32 (reg_name i.0) (codes "," ++ decimal i.1) (lacks_plain 32 (reg_name i.0) refl (reg_plain i.0)) (lacks_plain 32 (decimal i.1) refl k.0.plain)
+-- a byte that no operand has
+pub record Outside (b : ℕ) : Type 0 where
+  plain : is_plain b ≡ false
+  percent : lacks b (codes "%") ≡ true
+  dollar : lacks b (codes "$") ≡ true
+  opens : lacks b (codes "(%") ≡ true
+  closes : lacks b (codes ")") ≡ true
+  comma : lacks b (codes ",") ≡ true
+  index : lacks b (codes ",%") ≡ true
 
--- operands have no blanks
-part_lacks : (p : Part) → Legible p → lacks 32 (part_text p) ≡ true
-part_lacks (General r) h = lacks_plain 32 (reg_name r) refl (reg_plain r)
-part_lacks (Wide x) h = lacks_plain 32 (xmm_name x) refl (xmm_plain x)
-part_lacks (Number z) h = lacks_plain 32 (signed_decimal z) refl h.plain
-part_lacks (Memory m) h =
-    lacks_append 32 (signed_decimal m.disp) (codes "(%" ++ (reg_name m.base ++ (index_text m.index ++ codes ")"))) (lacks_plain 32 (signed_decimal m.disp) refl h.disp.plain)
-    (lacks_append 32 (reg_name m.base) (index_text m.index ++ codes ")") (lacks_plain 32 (reg_name m.base) refl (reg_plain m.base)) (lacks_append 32 (index_text m.index) (codes ")") (lacks_index_blank m.index h.scale) refl))
+pub blank_outside : Outside 32
+blank_outside = record { plain = refl; percent = refl; dollar = refl; opens = refl; closes = refl; comma = refl; index = refl }
+
+pub newline_outside : Outside 10
+newline_outside = record { plain = refl; percent = refl; dollar = refl; opens = refl; closes = refl; comma = refl; index = refl }
+
+pub part_lacks : (b : ℕ) → Outside b → (p : Part) → Legible p → lacks b (part_text p) ≡ true
+part_lacks b o (General r) h = lacks_append b (codes "%") (reg_name r) o.percent (lacks_plain b (reg_name r) o.plain (reg_plain r))
+part_lacks b o (Wide x) h = lacks_append b (codes "%") (xmm_name x) o.percent (lacks_plain b (xmm_name x) o.plain (xmm_plain x))
+part_lacks b o (Number z) h = lacks_append b (codes "$") (signed_decimal z) o.dollar (lacks_plain b (signed_decimal z) o.plain h.plain)
+part_lacks b o (Memory m) h =
+    lacks_append b (signed_decimal m.disp) (codes "(%" ++ (reg_name m.base ++ (index_text m.index ++ codes ")"))) (lacks_plain b (signed_decimal m.disp) o.plain h.disp.plain)
+    (lacks_append b (codes "(%") (reg_name m.base ++ (index_text m.index ++ codes ")")) o.opens
+    (lacks_append b (reg_name m.base) (index_text m.index ++ codes ")") (lacks_plain b (reg_name m.base) o.plain (reg_plain m.base))
+    (lacks_append b (index_text m.index) (codes ")") (lacks_index b o.plain o.comma o.index m.index h.scale) o.closes)))
 
 -- the text behind an operand and its comma
 next_part : (p : Part) (rest : List ℕ) → Legible p → cut 32 (part_text p ++ (codes ", " ++ rest)) ≡ Some (part_text p ++ codes ",", rest)
 next_part p rest h =
     ap (cut 32) (sym (append_assoc (part_text p) (codes ",") (codes " " ++ rest)))
-    ∙ cut_at 32 (part_text p ++ codes ",") rest (lacks_append 32 (part_text p) (codes ",") (part_lacks p h) refl)
+    ∙ cut_at 32 (part_text p ++ codes ",") rest (lacks_append 32 (part_text p) (codes ",") (part_lacks 32 blank_outside p h) refl)
 
 last_part : (p : Part) → Legible p → part_of (part_text p) ≡ Some p
 last_part p h = ap part_of (sym (append-nil (part_text p))) ∙ part_back p [] h (inl refl)
@@ -174,7 +189,7 @@ AllLegible (Two a b) = Legible a × Legible b
 AllLegible (Three a b c) = Legible a × (Legible b × Legible c)
 
 pub parts_back : (ps : Parts) → AllLegible ps → parts_of (operands_text ps) ≡ Some ps
-parts_back (One a) h = rw (last_part a h, cut_none 32 (part_text a) (part_lacks a h)) refl
-parts_back (Two a b) h = rw (front_part b (part_text a) h.1, next_part b (part_text a) h.1, last_part a h.0, cut_none 32 (part_text a) (part_lacks a h.0)) refl
+parts_back (One a) h = rw (last_part a h, cut_none 32 (part_text a) (part_lacks 32 blank_outside a h)) refl
+parts_back (Two a b) h = rw (front_part b (part_text a) h.1, next_part b (part_text a) h.1, last_part a h.0, cut_none 32 (part_text a) (part_lacks 32 blank_outside a h.0)) refl
 parts_back (Three a b c) h =
     rw (front_part c (part_text b ++ (codes ", " ++ part_text a)) h.1.1, next_part c (part_text b ++ (codes ", " ++ part_text a)) h.1.1, front_part b (part_text a) h.1.0, next_part b (part_text a) h.1.0, last_part a h.0) refl

@@ -3,16 +3,12 @@ use Rattle.std.proofs.Common.{◌≡◌, ℕ, ◌+◌, Bool, true, false, List, 
 use Rattle.std.specs.Prelude.{◌||◌, ◌&&◌, ◌==◌, not}
 use Rattle.std.specs.List.{list_all}
 use Rattle.std.specs.Str.{bytes_eq}
-use Rattle.std.proofs.lemmas.Bool.{and_parts, and_from, eq-eqb, false≢true}
+use Rattle.std.proofs.lemmas.Bool.{and_parts, and_from, eq-eqb, false≢true, not-true}
 use Rattle.x64_syntax.specs.declared.items.Item.{Item}
 use Rattle.x64_syntax.specs.declared.items.Item.TheVariants as item
 use Rattle.x64_syntax.specs.Programs.{begins_with_entry, entries_differ, has_entry, is_item, labels_from, is_ordered}
 use Rattle.x64_syntax.specs.LabelCount.{label_count}
 use Rattle.gas_text.proofs.Counts.{is_code, Next, is_code_next, bytes_from, bytes_same}
-
-pub is_no : (b : Bool) → not b ≡ true → b ≡ false
-is_no true h = absurd (false≢true h)
-is_no false h = refl
 
 -- names are told apart whichever comes first
 pub differ_turned : (a b : List ℕ) → bytes_eq a b ≡ false → bytes_eq b a ≡ false
@@ -69,7 +65,7 @@ differ_last_entry [] name h k = refl
 differ_last_entry (item.Entry other ∷ is) name h k =
     let p = and_parts (not (has_entry other is)) _ h in
     let q = or_no (bytes_eq name other) _ k in
-    and_from _ _ (ap not (has_last_entry other name is (is_no _ p.0) (differ_turned name other q.0))) (differ_last_entry is name p.1 q.1)
+    and_from _ _ (ap not (has_last_entry other name is (not-true _ p.0) (differ_turned name other q.0))) (differ_last_entry is name p.1 q.1)
 differ_last_entry (item.Ins j ∷ is) name h k = differ_last_entry is name h k
 differ_last_entry (item.Label l ∷ is) name h k = differ_last_entry is name h k
 differ_last_entry (item.Jmp l ∷ is) name h k = differ_last_entry is name h k
@@ -99,7 +95,7 @@ pub entry_behind : (is rest : List Item) (name : List ℕ) → entries_differ (i
 entry_behind [] rest name h = refl
 entry_behind (item.Entry other ∷ is) rest name h =
     let p = and_parts (not (has_entry other (is ++ item.Entry name ∷ rest))) _ h in
-    or_false (bytes_eq name other) _ (differ_turned other name (among is (is_no _ p.0))) (entry_behind is rest name p.1)
+    or_false (bytes_eq name other) _ (differ_turned other name (among is (not-true _ p.0))) (entry_behind is rest name p.1)
   where
     among : (is : List Item) → has_entry other (is ++ item.Entry name ∷ rest) ≡ false → bytes_eq other name ≡ false
     among [] k = (or_no (bytes_eq other name) _ k).0
