@@ -1,8 +1,9 @@
 -- What is built meets its contract and reads as its code.
-use Rattle.std.proofs.Common.{◌≡◌, ℕ, ◌+◌, ◌-◌, ◌^◌, ◌<◌, ℤ, pos, negsuc, ◌≤ℤ◌, ◌<ℤ◌, None, Bool, true, false, not, List, [], ◌∷◌, ◌++◌, map, Option, refl, sym, ap, ◌∙◌, subst, arith}
-use Rattle.std.specs.Prelude.{◌||◌, ◌==◌, IfSome, is_ok, is_none}
+use Rattle.std.proofs.Common.{◌≡◌, ℕ, ◌-◌, ◌^◌, ◌<◌, ℤ, pos, negsuc, ◌≤ℤ◌, ◌<ℤ◌, None, Bool, true, false, not, List, [], ◌∷◌, ◌++◌, map, Option, length, refl, sym, ap, ◌∙◌, subst, arith}
+use Rattle.std.specs.Prelude.{◌||◌, IfSome, Some, is_ok, option_and_then}
 use Rattle.std.specs.List.{list_all, AllByRecursion}
-use Rattle.std.proofs.lemmas.Bool.{and_from, false≢true}
+use Rattle.std.proofs.lemmas.Bool.{and_from, false≢true, lt-ltb, not_from_false}
+use Rattle.std.proofs.lemmas.List.{append-nil}
 use Rattle.std.proofs.lemmas.Int.{ints}
 use Rattle.x64_syntax.specs.declared.places.Reg.{Reg as GeneralReg}
 use Rattle.x64_syntax.specs.declared.places.Reg.TheVariants.{Rsp}
@@ -14,15 +15,21 @@ use Rattle.x64_syntax.specs.declared.instructions.AluOp.TheVariants.{Add}
 use Rattle.x64_syntax.specs.declared.instructions.Ins.{Ins}
 use Rattle.x64_syntax.specs.declared.instructions.Ins.TheVariants.{Mov, Alu}
 use Rattle.x64_syntax.specs.declared.items.Item.TheVariants as item
-use Rattle.x64_syntax.specs.declared.items.Item.{Item}
-use Rattle.x64_syntax.specs.Instructions.{form_of}
-use Rattle.x64_syntax.specs.Programs.{has_entry, entries_differ, is_item, labels_from, piece, stray_from, program_ok}
+use Rattle.x64_syntax.specs.Instructions.{form_of, accesses}
+use Rattle.x64_syntax.specs.declared.code.Node.{Node-F, fold-roll-Node}
+use Rattle.x64_syntax.specs.declared.code.Node.TheVariants as node
+use Rattle.x64_syntax.specs.Code.{Prog, Step, prog, node_tree, node_layer, has_block, are_forms, nodes, slots_after, none_left, slots}
+use Rattle.x64_syntax.specs.Programs.{program_ok}
 use Rattle.x64_syntax.specs.Places.{reg_eq}
 use Rattle.x64_syntax.proofs.PlaceLemmas.{reg_eq_is}
-use Rattle.x64_meaning.specs.Condition.{no_functions, is_plain, unwritten, StraightFits}
+use Rattle.x64_meaning.specs.Condition.{no_functions, is_plain, unwritten, straight_items, StraightFits}
+use Rattle.x64_meaning.specs.Contract.{Meets, SameRuns}
 use Rattle.x64_meaning.specs.Exp.{among}
 use Rattle.x64_meaning.specs.Table.{writes}
 use Rattle.x64_meaning.proofs.Straight.{straight_meets, straight_runs}
+use Rattle.code_lower.specs.Lowered.{labels, code_items, export_items}
+use Rattle.code_lower.specs.Keeps.{AreExports}
+use Rattle.code_lower.proofs.Program.{is_program}
 use Rattle.gas_text.specs.Gas.{gas_text}
 use Rattle.gas_text.specs.Text.{ReadsAs}
 use Rattle.gas_text.proofs.Built.{size, in_range_of_size}
@@ -32,11 +39,10 @@ use Rattle.straight_line.specs.Form.{has, IsInstruction, IsStraight}
 use Rattle.vale_driver.specs.Certificate.{Pair, Proves}
 use Rattle.vale_driver.specs.Ring.{ring_closes}
 use Rattle.vale_driver.specs.Terms.{is_built}
-use Rattle.vale_driver.specs.Build.{contract_of, is_changed, condition_hyps, condition_goal, lowered}
+use Rattle.vale_driver.specs.Build.{contract_of, is_changed, condition_hyps, condition_goal, steps_of, exports_of, lowered_code}
 use Rattle.vale_driver.specs.Outcome.{Build, Held, Holds, Accepted, IsBuilt}
 use Rattle.vale_driver.specs.Stops.{SourcesSpell, CertificateHeld}
 use Rattle.vale_driver.proofs.RingSound.{ring_sound}
-use Rattle.vale_driver.proofs.Pieces.{not_false}
 
 module _ (rs : List GeneralReg) where
   plain : (i : Ins) → IsInstruction rs i → is_plain i ≡ true
@@ -70,10 +76,10 @@ module _ (rs : List GeneralReg) where
 
   -- no place that isn't declared is written
   unwritten_by : (i : Ins) (q : Place) → IsInstruction rs i → (c : Place → Bool) → ((r : GeneralReg) → c (Reg r) ≡ has rs r) → ((f : FlagName) → c (Flag f) ≡ true) → c q ≡ false → not (among (writes i) q) ≡ true
-  unwritten_by (Mov d s) (Reg r) h c cr cf out = not_false _ (ap (λ b. b || false) (told_apart d r h.0 (sym (cr r) ∙ out)))
+  unwritten_by (Mov d s) (Reg r) h c cr cf out = not_from_false _ (ap (λ b. b || false) (told_apart d r h.0 (sym (cr r) ∙ out)))
   unwritten_by (Mov d s) (Xmm x) h c cr cf out = refl
   unwritten_by (Mov d s) (Flag f) h c cr cf out = refl
-  unwritten_by (Alu Add d s) (Reg r) h c cr cf out = not_false _ (ap (λ b. b || false) (told_apart d r h.0 (sym (cr r) ∙ out)))
+  unwritten_by (Alu Add d s) (Reg r) h c cr cf out = not_from_false _ (ap (λ b. b || false) (told_apart d r h.0 (sym (cr r) ∙ out)))
   unwritten_by (Alu Add d s) (Xmm x) h c cr cf out = refl
   unwritten_by (Alu Add d s) (Flag f) h c cr cf out = absurd (false≢true (sym out ∙ cf f))
   unwritten_by _ q h c cr cf out = absurd h
@@ -92,9 +98,55 @@ module _ (rs : List GeneralReg) where
   formed (Alu Add d (M m)) k h = absurd h.1
   formed _ k h = absurd h
 
-  each_item : (is : List Ins) → has rs Rsp ≡ false → AllByRecursion (IsInstruction rs) is → list_all is_item (map item.Ins is ++ item.Ret ∷ []) ≡ true
-  each_item [] k h = refl
-  each_item (i ∷ is) k h = and_from _ _ (formed i k h.0) (each_item is k h.1)
+  -- their code is the machine's
+  forms : (is : List Ins) → has rs Rsp ≡ false → AllByRecursion (IsInstruction rs) is → are_forms (steps_of is) ≡ true
+  forms [] k h = refl
+  forms (i ∷ is) k h = and_from _ _ (and_from _ _ (formed i k h.0) (no_block i h.0)) (forms is k h.1)
+    where
+      no_block : (i : Ins) → IsInstruction rs i → has_block None (accesses i) ≡ true
+      no_block (Mov d (R s)) h = refl
+      no_block (Mov d (Imm z)) h = refl
+      no_block (Mov d (M m)) h = absurd h.1
+      no_block (Alu Add d (R s)) h = refl
+      no_block (Alu Add d (Imm z)) h = refl
+      no_block (Alu Add d (M m)) h = absurd h.1
+      no_block _ h = absurd h
+
+  no_slots : (is : List Ins) → AllByRecursion (IsInstruction rs) is → slots (steps_of is) 0 ≡ Some 0
+  no_slots [] h = refl
+  no_slots (i ∷ is) h = ap (λ o. option_and_then (slots (steps_of is)) o) (none_pushed i h.0) ∙ no_slots is h.1
+    where
+      none_pushed : (i : Ins) → IsInstruction rs i → slots_after i 0 ≡ Some 0
+      none_pushed (Mov d s) h = refl
+      none_pushed (Alu Add d s) h = refl
+      none_pushed _ h = absurd h
+
+-- as many nodes as instructions, and no labels
+node_count : (is : List Ins) → nodes (steps_of is) ≡ length is
+node_count [] = refl
+node_count (i ∷ is) = let e = node_count is in omega (arith, e)
+
+pub no_labels : (is : List Ins) → labels (steps_of is) ≡ 0
+no_labels [] = refl
+no_labels (i ∷ is) = no_labels is
+
+pub code_is : (k : ℕ) (is : List Ins) → code_items k (steps_of is) ≡ map item.Ins is
+code_is k [] = refl
+code_is k (i ∷ is) = ap (λ l. item.Ins i ∷ l) (code_is k is)
+
+-- the code of nodes that are instructions without a block
+pub nodes_are : (is : List Ins) → prog (map (λ i. node.Ins i None) is) ≡ steps_of is
+nodes_are [] = refl
+nodes_are (i ∷ is) =
+    ap (λ n. node_tree n (prog (map (λ j. node.Ins j None) is))) (sym (node.rolls-Ins i None))
+    ∙ ap (λ f. f (prog (map (λ j. node.Ins j None) is))) (fold-roll-Node (Prog → Prog) node_layer (Node-F.Ins i None))
+    ∙ ap (Step i None) (nodes_are is)
+
+-- straight code as it is lowered
+pub straight_lowered : (p : StraightLine) → lowered_code p ≡ straight_items p.export p.instructions
+straight_lowered p =
+    append-nil (export_items 0 p.export (steps_of p.instructions))
+    ∙ ap (λ l. item.Entry p.export ∷ (l ++ item.Ret ∷ [])) (code_is 0 p.instructions)
 
 declared : (p : StraightLine) (is : List Ins) (q : Place) → AllByRecursion (IsInstruction p.registers) is → is_changed p q ≡ false → unwritten is q ≡ true
 declared p [] q h out = refl
@@ -109,32 +161,26 @@ fits p ps ok closes = record {
   proved = ((λ a holds. ring_sound no_functions a (condition_hyps p) (condition_goal p) ps closes holds), tt);
 }
 
-no_entry : (name : List ℕ) (is : List Ins) → has_entry name (map item.Ins is ++ item.Ret ∷ []) ≡ false
-no_entry name [] = refl
-no_entry name (i ∷ is) = no_entry name is
+exports : (p : StraightLine) → IsStraight p → AreExports (exports_of p)
+exports p ok =
+    let few = ok.few in
+    let count = node_count p.instructions in
+    let none = no_labels p.instructions in
+    let small = lt-ltb (nodes (steps_of p.instructions)) (2 ^ 32) (omega (arith, count, few)) in
+    let pushed = ap none_left (no_slots p.registers p.instructions ok.each) in
+    record {
+      names = and_from _ _ ok.export refl;
+      differ = refl;
+      codes = and_from _ _ (and_from _ _ (forms p.registers p.instructions ok.rsp ok.each) (and_from _ _ small pushed)) refl;
+      few = omega (arith, none);
+    }
 
-no_entries : (is : List Ins) → entries_differ (map item.Ins is ++ item.Ret ∷ []) ≡ true
-no_entries [] = refl
-no_entries (i ∷ is) = no_entries is
+pub program : (p : StraightLine) → IsStraight p → program_ok (lowered_code p) ≡ true
+program p ok = is_program (exports_of p) (exports p ok)
 
-no_labels : (k : ℕ) (is : List Ins) → labels_from k (map item.Ins is ++ item.Ret ∷ []) ≡ true
-no_labels k [] = refl
-no_labels k (i ∷ is) = no_labels k is
-
-no_jumps : (k : ℕ) (p : List Item) (is : List Ins) → stray_from k p (map item.Ins is ++ item.Ret ∷ []) ≡ None
-no_jumps k p [] = refl
-no_jumps k p (i ∷ is) = no_jumps (k + 1) p is
-
-pub program : (p : StraightLine) → IsStraight p → program_ok (lowered p) ≡ true
-program p ok =
-    let code = map item.Ins p.instructions ++ item.Ret ∷ [] in
-    let distinct = and_from _ _ (not_false _ (no_entry p.export p.instructions)) (no_entries p.instructions) in
-    let items = and_from (is_item (item.Entry p.export)) (list_all is_item code) ok.export (each_item p.registers p.instructions ok.rsp ok.each) in
-    and_from _ _ (and_from _ _ (and_from _ _ refl distinct) (and_from _ _ items (no_labels 0 p.instructions))) (ap is_none (no_jumps 1 (piece code) p.instructions))
-
-pub built : (tells : List ℕ → Option (List ℕ)) (b : Build) (h : Held) (p : StraightLine) (ps : List Pair) (text : List ℕ) → IsStraight p → Holds tells b h → Accepted b h p ps → text ≡ gas_text (lowered p) → IsBuilt tells b text
+pub built : (tells : List ℕ → Option (List ℕ)) (b : Build) (h : Held) (p : StraightLine) (ps : List Pair) (text : List ℕ) → IsStraight p → Holds tells b h → Accepted b h p ps → text ≡ gas_text (lowered_code p) → IsBuilt tells b text
 built tells b h p ps text ok holds accepted e =
-    let reads : ReadsAs text (lowered p) = record { program = program p ok; is = sym e } in
+    let reads : ReadsAs text (lowered_code p) = record { program = program p ok; is = sym e } in
     let closed = fits p ps ok accepted.closes in
     record {
       held = h;
@@ -143,12 +189,12 @@ built tells b h p ps text ok holds accepted e =
       steps = ps;
       accepted = accepted;
       reads = reads;
-      reads_only = λ items k. one_list text items (lowered p) k reads;
-      meets = straight_meets p.export p.instructions (contract_of p) closed;
-      same_runs = straight_runs p.export p.instructions (contract_of p) closed;
+      reads_only = λ items k. one_list text items (lowered_code p) k reads;
+      meets = subst (λ l. Meets (contract_of p) l 0) (sym (straight_lowered p)) (straight_meets p.export p.instructions (contract_of p) closed);
+      same_runs = subst (λ l. SameRuns (contract_of p) l 0) (sym (straight_lowered p)) (straight_runs p.export p.instructions (contract_of p) closed);
     }
 
-pub built_from : (tells : List ℕ → Option (List ℕ)) (told : Option (List ℕ)) (cert : List ℕ) (files : List (List ℕ)) (p : StraightLine) (ps : List Pair) (text : List ℕ) → IsStraight p → SourcesSpell tells files p → told ≡ tells cert → CertificateHeld told (λ c. Proves c p.name ps) → ring_closes (condition_hyps p) (condition_goal p) ps ≡ true → text ≡ gas_text (lowered p) → IsBuilt tells (record { cert = cert; files = files }) text
+pub built_from : (tells : List ℕ → Option (List ℕ)) (told : Option (List ℕ)) (cert : List ℕ) (files : List (List ℕ)) (p : StraightLine) (ps : List Pair) (text : List ℕ) → IsStraight p → SourcesSpell tells files p → told ≡ tells cert → CertificateHeld told (λ c. Proves c p.name ps) → ring_closes (condition_hyps p) (condition_goal p) ps ≡ true → text ≡ gas_text (lowered_code p) → IsBuilt tells (record { cert = cert; files = files }) text
 built_from tells told cert files p ps text ok h same c closes e =
     built tells (record { cert = cert; files = files }) (record { sources = h.contents; cert = c.held }) p ps text ok
     record { sources = h.holds; cert = subst (λ o. IfSome o (λ t. c.held ≡ t)) same c.holds }

@@ -1,5 +1,5 @@
 -- What the loops over instructions and source files keep.
-use Rattle.std.proofs.Common.{◌≡◌, ℕ, ◌≤◌, Bool, true, List, Option, ◌++◌, map}
+use Rattle.std.proofs.Common.{◌≡◌, ℕ, ◌≤◌, true, List, Option, ◌++◌, map}
 use Rattle.std.specs.List.{AllByRecursion, list_all}
 use Rattle.x64_syntax.specs.declared.places.Place.{Place}
 use Rattle.x64_syntax.specs.declared.instructions.Ins.{Ins}

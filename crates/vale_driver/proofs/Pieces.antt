@@ -6,10 +6,7 @@ use Rattle.std.proofs.lemmas.Slice.Eq.{bytes_eq-Decides}
 use Rattle.std.proofs.lemmas.Fmt.{decimal_by_steps}
 use Rattle.std.proofs.lemmas.List.{take-append-drop}
 use Rattle.std.proofs.Math.Seq.{take-append_seam, drop-append_seam}
-use Rattle.x64_syntax.specs.declared.places.Reg.{Reg}
-use Rattle.x64_syntax.specs.declared.places.Reg.TheVariants.{Rax, Rbx, Rcx, Rdx, Rsi, Rdi, Rbp, Rsp, R8, R9, R10, R11, R12, R13, R14, R15}
-use Rattle.x64_syntax.specs.Places.{reg_name, reg_of}
-use Rattle.x64_syntax.specs.Words.{is_name_byte, is_digit_byte}
+use Rattle.x64_syntax.specs.Words.{is_digit_byte}
 use Rattle.vale_driver.specs.Reading.{◌>>=◌, given, strip, span, number_of, number_at}
 pub use Rattle.vale_syntax.proofs.Sound.{bind_some}
 use Rattle.vale_driver.proofs.Numbers.{number_of-decimal}
@@ -114,43 +111,3 @@ unfolding number_at
 number_takes n rest fits s =
     ap (λ x. number_of x.0 >>= λ m. Some (m, x.1)) (span_front is_digit_byte (decimal n) rest (digits-decimal n fits) s)
     ∙ ap (λ o. o >>= λ m. Some (m, rest)) (number_of-decimal n fits)
-
-pub not_false : (b : Bool) → b ≡ false → not b ≡ true
-not_false true h = absurd (false≢true (sym h))
-not_false false h = refl
-
-pub reg_of-reg_name : (r : Reg) → reg_of (reg_name r) ≡ Some r
-reg_of-reg_name Rax = refl
-reg_of-reg_name Rbx = refl
-reg_of-reg_name Rcx = refl
-reg_of-reg_name Rdx = refl
-reg_of-reg_name Rsi = refl
-reg_of-reg_name Rdi = refl
-reg_of-reg_name Rbp = refl
-reg_of-reg_name Rsp = refl
-reg_of-reg_name R8 = refl
-reg_of-reg_name R9 = refl
-reg_of-reg_name R10 = refl
-reg_of-reg_name R11 = refl
-reg_of-reg_name R12 = refl
-reg_of-reg_name R13 = refl
-reg_of-reg_name R14 = refl
-reg_of-reg_name R15 = refl
-
-pub reg_name-bytes : (r : Reg) → list_all is_name_byte (reg_name r) ≡ true
-reg_name-bytes Rax = refl
-reg_name-bytes Rbx = refl
-reg_name-bytes Rcx = refl
-reg_name-bytes Rdx = refl
-reg_name-bytes Rsi = refl
-reg_name-bytes Rdi = refl
-reg_name-bytes Rbp = refl
-reg_name-bytes Rsp = refl
-reg_name-bytes R8 = refl
-reg_name-bytes R9 = refl
-reg_name-bytes R10 = refl
-reg_name-bytes R11 = refl
-reg_name-bytes R12 = refl
-reg_name-bytes R13 = refl
-reg_name-bytes R14 = refl
-reg_name-bytes R15 = refl

@@ -1,13 +1,16 @@
 -- What a procedure without branches means: its contract, its condition and its code.
-use Rattle.std.specs.Prelude.{Bool, true, false, List, [], ◌∷◌}
+use Rattle.std.specs.Prelude.{ℕ, Bool, true, false, List, [], ◌∷◌, None}
 use Rattle.x64_syntax.specs.declared.places.Place.{Place}
 use Rattle.x64_syntax.specs.declared.places.Place.TheVariants.{Reg, Xmm, Flag}
+use Rattle.x64_syntax.specs.declared.instructions.Ins.{Ins}
 use Rattle.x64_syntax.specs.declared.items.Item.{Item}
+use Rattle.x64_syntax.specs.Code.{Prog, Done, Step}
 use Rattle.term_core.specs.declared.operator.BinOp.TheVariants as bin
 use Rattle.term_core.specs.Terms.{Tm}
 use Rattle.x64_meaning.specs.Exp.{Exp, Before, After, W64, Bin}
 use Rattle.x64_meaning.specs.Contract.{Contract}
-use Rattle.x64_meaning.specs.Condition.{straight_hyps, straight_goal, straight_items}
+use Rattle.x64_meaning.specs.Condition.{straight_hyps, straight_goal}
+use Rattle.code_lower.specs.Lowered.{lowered}
 use Rattle.straight_line.specs.declared.form.Promise.{Promise}
 use Rattle.straight_line.specs.declared.form.Promise.TheVariants.{Constant, Old, Sum}
 use Rattle.straight_line.specs.declared.form.StraightLine.{StraightLine}
@@ -39,6 +42,14 @@ condition_hyps p = straight_hyps p.instructions
 abbrev pub condition_goal : StraightLine → Tm
 condition_goal p = straight_goal p.instructions (promised p.promise)
 
--- the lowered code of its export
-abbrev pub lowered : StraightLine → List Item
-lowered p = straight_items p.export p.instructions
+-- its code: instructions one after another, none of which accesses memory
+abbrev pub steps_of : List Ins → Prog
+steps_of [] = Done
+steps_of (i ∷ is) = Step i None (steps_of is)
+
+-- its exports, each a name and its code
+abbrev pub exports_of : StraightLine → List (List ℕ × Prog)
+exports_of p = (p.export, steps_of p.instructions) ∷ []
+
+abbrev pub lowered_code : StraightLine → List Item
+lowered_code p = lowered (exports_of p)

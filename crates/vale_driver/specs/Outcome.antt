@@ -11,7 +11,7 @@ use Rattle.vale_driver.specs.Reading.{given}
 use Rattle.vale_driver.specs.Sources.{Source, numbered, refusal, IsShort, Spells, NoForm, Phases}
 use Rattle.vale_driver.specs.Certificate.{Pair, Proves}
 use Rattle.vale_driver.specs.Ring.{ring_closes}
-use Rattle.vale_driver.specs.Build.{contract_of, condition_hyps, condition_goal, lowered}
+use Rattle.vale_driver.specs.Build.{contract_of, condition_hyps, condition_goal, lowered_code}
 use Rattle.gas_text.specs.Text.{ReadsAs}
 
 -- the files that the words of a build name
@@ -139,10 +139,10 @@ pub record IsBuilt (tells : List ℕ → Option (List ℕ)) (b : Build) (text : 
   pub program : StraightLine
   pub steps : List Pair
   pub accepted : Accepted b held program steps
-  pub reads : ReadsAs text (lowered program)
-  pub reads_only : (items : List Item) → ReadsAs text items → items ≡ lowered program
-  pub meets : Meets (contract_of program) (lowered program) 0
-  pub same_runs : SameRuns (contract_of program) (lowered program) 0
+  pub reads : ReadsAs text (lowered_code program)
+  pub reads_only : (items : List Item) → ReadsAs text items → items ≡ lowered_code program
+  pub meets : Meets (contract_of program) (lowered_code program) 0
+  pub same_runs : SameRuns (contract_of program) (lowered_code program) 0
 
 -- what was told stays the same
 abbrev pub Same : Option (List ℕ) → Option (List ℕ) → Type 0

@@ -13,8 +13,8 @@ ghost use Rattle.vale_driver.specs.Outcome.{IsBuilt, IsRefused, certificate_refu
 ghost use Rattle.vale_driver.specs.Stops.{StopsBy, CertificateHeld, CertificateRefusal};
 
 use crate::certificate::{CertificateFault, Pair, read_certificate};
+use crate::code::items_of;
 use crate::condition::condition;
-use crate::lower::lower;
 use crate::ring::ring_closes;
 use crate::sources::read_sources;
 use crate::status::Refusal;
@@ -102,6 +102,6 @@ pub(crate) fn build<S: Store>(
         let refusal = not_closed(alloc, words.cert, program.name.as_bytes())?;
         return Err(Stop::Refused(refusal));
     }
-    let items = lower(alloc, &program)?;
+    let items = items_of(alloc, &program)?;
     Ok(print(alloc, &items)?)
 }

@@ -3,8 +3,8 @@
 
 mod build;
 mod certificate;
+mod code;
 mod condition;
-mod lower;
 mod program;
 mod reading;
 mod report;
