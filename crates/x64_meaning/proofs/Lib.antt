@@ -10,3 +10,4 @@ pub mod Computes
 pub mod Alone
 pub mod Sources
 pub mod Stepping
+pub mod Foreseeing

@@ -217,3 +217,13 @@ pub record Fits (s : State) : Type 0 where
 abbrev pub Puts : Option (List Range) → ℕ → State → State → Result (Option Obs) Fault → Type 0
 Puts None a old new result = (result ≡ Err (Outside a)) × (new ≡ old)
 Puts (Some bs) a old new result = (result ≡ Ok (Some (Access a 8 true))) × (new ≡ record old { blocks = bs })
+
+-- what a step would show, or its fault
+abbrev pub Foresees : Outcome → Result (Option Obs) Fault → Type 0
+Foresees (Done s seen) result = result ≡ Ok (last_of seen)
+Foresees (Faulted f) result = result ≡ Err f
+
+-- what a store of a word would show, by what it would leave
+abbrev pub WouldPut : Option (List Range) → ℕ → Result (Option Obs) Fault → Type 0
+WouldPut None a result = result ≡ Err (Outside a)
+WouldPut (Some bs) a result = result ≡ Ok (Some (Access a 8 true))

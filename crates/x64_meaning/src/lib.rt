@@ -12,5 +12,5 @@ mod versions;
 
 pub use laws::{forms_as_in_the_table, straight_code};
 pub use machine::{Fault, Flag, Machine, Obs, Seen};
-pub use step::{is_general, step_ins};
+pub use step::{foresee, holds, is_general, open_flag, step_ins};
 pub use versions::{place_sort, version, version_name};

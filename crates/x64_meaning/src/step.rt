@@ -1,15 +1,16 @@
 // One step of the machine.
 
-ghost use Rattle.std.specs.Prelude.{◌≡◌, ◌<◌, ℕ, length, slice_index, true, is_ok, IfOk};
+ghost use Rattle.std.specs.Prelude.{◌≡◌, ◌<◌, ℕ, List, [], ◌∷◌, length, slice_index, true, is_ok, IfOk};
+ghost use Rattle.std.specs.List.{find};
 ghost use Rattle.std.specs.Int.{to_le_bytes, w64};
 ghost use Rattle.x64_syntax.specs.declared.instructions.Ins.TheVariants as ins;
 ghost use Rattle.x64_syntax.specs.declared.places.Place.TheVariants as place;
-ghost use Rattle.x64_syntax.specs.Instructions.{form_of, read_places, is_among};
+ghost use Rattle.x64_syntax.specs.Instructions.{form_of, read_places, is_among, cond_flags};
 ghost use Rattle.x64_blocks.specs.Memory.{store};
 ghost use Rattle.term_core.specs.Value.{T, word_of};
 ghost use Rattle.x64_meaning.specs.State.{flag, load};
 ghost use Rattle.x64_meaning.specs.Run.{is_undefined, address, access, with_access, does, cond_holds, first_undefined};
-ghost use Rattle.x64_meaning.specs.Steps.{loaded, sourced, taken, computed, Fits, is_general, defined_flag, defined, Puts, Acts, Steps};
+ghost use Rattle.x64_meaning.specs.Steps.{loaded, sourced, taken, computed, Fits, is_general, defined_flag, defined, Puts, Acts, Steps, Foresees, WouldPut};
 
 use crate::arithmetic::{
     add_with, alu, is_set, multiply, multiply_apart, multiply_wide, one, shift,
@@ -119,8 +120,8 @@ fn compute(m: &mut Machine, ins: &Ins, word: u64)
     }
 }
 
-// Whether a condition holds of flags that are defined.
-fn holds(m: &Machine, c: Cond) -> bool
+/// Whether a condition holds, where the flags that it reads are defined.
+pub fn holds(m: &Machine, c: Cond) -> bool
     ensures { result ≡ cond_holds c m.now }
 {
     let cf = is_set(m, FlagName::Cf);
@@ -191,6 +192,24 @@ fn is_open(m: &Machine, name: FlagName) -> bool
     m.flags[name.number()] == Flag::Undefined
 }
 
+// The flag, where it is undefined.
+fn where_open(m: &Machine, name: FlagName) -> Option<FlagName>
+    ensures { result ≡ find (λ f. is_undefined (flag m.now f)) (name ∷ []) }
+{
+    if is_open(m, name) { Some(name) } else { None }
+}
+
+/// The first flag that a condition reads and that is undefined.
+pub fn open_flag(m: &Machine, c: Cond) -> Option<FlagName>
+    ensures { result ≡ find (λ f. is_undefined (flag m.now f)) (cond_flags c) }
+{
+    match c {
+        Cond::E | Cond::Ne => where_open(m, FlagName::Zf),
+        Cond::B | Cond::Ae => where_open(m, FlagName::Cf),
+        Cond::Be | Cond::A => { where_open(m, FlagName::Cf).or(where_open(m, FlagName::Zf)) }
+    }
+}
+
 fn is_defined(m: &Machine, ins: &Ins, flag: FlagName) -> Result<(), Fault>
     ensures { result ≡ defined_flag (λ f. is_among (read_places ins.now) (place.Flag f)) m.now flag }
 {
@@ -240,4 +259,43 @@ pub fn step_ins(m: &mut Machine, ins: &Ins, seen: &mut Seen) -> Result<(), Fault
     are_defined(m, ins)?;
     seen.last = act(m, ins)?;
     Ok(())
+}
+
+// What a store of a word would show: it succeeds where a load does.
+fn would_put(m: &Machine, address: u64) -> Result<Option<Obs>, Fault>
+    ensures { (new : List ℕ) → length new ≡ 8 → WouldPut (store m.now.blocks address new) address result }
+{
+    match m.blocks.load8(address) {
+        Ok(_) => Ok(Some(Obs::Access {
+            address,
+            size: 8,
+            write: true,
+        })),
+        Err(_) => Err(Fault::Outside { address }),
+    }
+}
+
+// What an instruction whose flags are defined would show, or its fault.
+fn would_act(m: &Machine, ins: &Ins) -> Result<Option<Obs>, Fault>
+    requires { is_general ins.now ≡ true }
+    ensures { Foresees (with_access m.now ins.now (access m.now ins.now)) result }
+{
+    match ins {
+        Ins::Store { m: mem, .. } => would_put(m, address(m, mem)),
+        Ins::Push { .. } => would_put(m, m.regs[Reg::Rsp.number()].wrapping_sub(8)),
+        _ => {
+            let (_, seen) = taken(m, ins)?;
+            Ok(seen)
+        }
+    }
+}
+
+/// What an observer would see of a step, or its fault; the machine stays as it is.
+pub fn foresee(m: &Machine, ins: &Ins) -> Result<Option<Obs>, Fault>
+    requires { is_general ins.now ≡ true }
+    ensures { Foresees (does ins.now m.now) result }
+{
+    forms_as_in_the_table();
+    are_defined(m, ins)?;
+    would_act(m, ins)
 }

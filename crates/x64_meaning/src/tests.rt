@@ -1,7 +1,7 @@
 // Single steps of the machine by example.
 
 use crate::machine::{Fault, Flag, Machine, Obs, Seen};
-use crate::step::{is_general, step_ins};
+use crate::step::{foresee, holds, is_general, open_flag, step_ins};
 use std::alloc::Global;
 use std::test::Fail;
 use x64_blocks::Blocks;
@@ -12,6 +12,8 @@ const TOP: u64 = u64::MAX;
 const HALF: u64 = 1 << 63;
 
 const D: Reg = Reg::R9;
+
+const CONDITIONS: [Cond; 6] = [Cond::E, Cond::Ne, Cond::B, Cond::Be, Cond::A, Cond::Ae];
 
 const S: Reg = Reg::R15;
 
@@ -68,6 +70,7 @@ fn letters(m: &Machine) -> [u8; 4] {
     [letter(cf), letter(zf), letter(sf), letter(of)]
 }
 
+// A step and what is seen of it, where exactly this was foreseen.
 fn step(m: &mut Machine, ins: Ins) -> (Result<(), Fault>, Option<Obs>) {
     let mut seen = Seen {
         last: Some(access(0, false)),
@@ -75,7 +78,70 @@ fn step(m: &mut Machine, ins: Ins) -> (Result<(), Fault>, Option<Obs>) {
     if ins_ok(&ins).is_err() || !is_general(&ins) {
         return (Err(Fault::Outside { address: 0 }), seen.last);
     }
-    (step_ins(m, &ins, &mut seen), seen.last)
+    let foreseen = foresee(m, &ins);
+    let done = step_ins(m, &ins, &mut seen);
+    let same = match (foreseen, done) {
+        (Ok(last), Ok(())) => last == seen.last,
+        (Err(fault), Err(other)) => fault == other,
+        _ => false,
+    };
+    (
+        done,
+        if same {
+            seen.last
+        } else {
+            Some(access(0, false))
+        },
+    )
+}
+
+#[test]
+fn conditions_hold_by_carry_and_zero(rt: HostRuntime) {
+    for (carry, zero, want) in [
+        (
+            Flag::Zero,
+            Flag::Zero,
+            [false, true, false, false, true, true],
+        ),
+        (
+            Flag::One,
+            Flag::Zero,
+            [false, true, true, true, false, false],
+        ),
+        (
+            Flag::Zero,
+            Flag::One,
+            [true, false, false, true, false, true],
+        ),
+        (
+            Flag::One,
+            Flag::One,
+            [true, false, true, true, false, false],
+        ),
+    ] {
+        let mut m = plain(rt.alloc(), 0, 0, false);
+        m.flags = [carry, zero, Flag::Undefined, Flag::Undefined];
+        for (c, want) in CONDITIONS.iter().zip(want) {
+            assert_eq!(rt; holds(&m, *c), want);
+            assert_eq!(rt; open_flag(&m, *c), None);
+        }
+    }
+}
+
+#[test]
+fn conditions_ask_for_carry_before_zero(rt: HostRuntime) {
+    let (cf, zf) = (Some(FlagName::Cf), Some(FlagName::Zf));
+    for (carry, zero, want) in [
+        (Flag::Undefined, Flag::One, [None, None, cf, cf, cf, cf]),
+        (Flag::Zero, Flag::Undefined, [zf, zf, None, zf, zf, None]),
+        (Flag::Undefined, Flag::Undefined, [zf, zf, cf, cf, cf, cf]),
+    ] {
+        let mut m = plain(rt.alloc(), 0, 0, false);
+        m.flags = [carry, zero, Flag::One, Flag::One];
+        for (c, want) in CONDITIONS.iter().zip(want) {
+            assert_eq!(rt; open_flag(&m, *c), want);
+        }
+    }
 }
 
 #[test]
