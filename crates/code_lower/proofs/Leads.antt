@@ -37,7 +37,7 @@ pub to_end : (items : List Item) (at : ℕ) (xs : List Item) → StandAt items a
 to_end items at [] h = (at, refl)
 to_end items at (x ∷ xs) h = let rest = to_end items (at + 1) xs h.1 in (rest.0, (h.0, rest.1))
 
-label_is : (l : ℕ) (i : Item) → is_label l i ≡ true → i ≡ item.Label l
+pub label_is : (l : ℕ) (i : Item) → is_label l i ≡ true → i ≡ item.Label l
 label_is l (item.Label m) h = ap item.Label (sym (eqb-true l m h))
 label_is l (item.Ins i) h = absurd (false≢true h)
 label_is l (item.Jmp m) h = absurd (false≢true h)

@@ -286,7 +286,7 @@ is_program es a =
     (ap is_none (at_first 0 es a.codes))
 
 -- labels in order stand once each
-tail_of : (k : ℕ) (x : Item) (xs : List Item) → labels_from k (x ∷ xs) ≡ true → (m : ℕ) × (k ≤ m) × (labels_from m xs ≡ true)
+pub tail_of : (k : ℕ) (x : Item) (xs : List Item) → labels_from k (x ∷ xs) ≡ true → (m : ℕ) × (k ≤ m) × (labels_from m xs ≡ true)
 tail_of k (item.Label l) xs h = (k + 1, omega arith, (and_parts (l == k) _ h).1)
 tail_of k (item.Ins i) xs h = (k, omega arith, h)
 tail_of k (item.Jmp l) xs h = (k, omega arith, h)
@@ -294,12 +294,12 @@ tail_of k (item.Jcc c l) xs h = (k, omega arith, h)
 tail_of k (item.Entry name) xs h = (k, omega arith, h)
 tail_of k item.Ret xs h = (k, omega arith, h)
 
-at_label_is : (k l : ℕ) (x : Item) (xs : List Item) → x ≡ item.Label l → labels_from k (x ∷ xs) ≡ true → (l ≡ k) × (labels_from (k + 1) xs ≡ true)
+pub at_label_is : (k l : ℕ) (x : Item) (xs : List Item) → x ≡ item.Label l → labels_from k (x ∷ xs) ≡ true → (l ≡ k) × (labels_from (k + 1) xs ≡ true)
 at_label_is k l x xs e h =
     let a = and_parts (l == k) _ (ap (λ y. labels_from k (y ∷ xs)) (sym e) ∙ h) in
     (eqb-true l k a.0, a.1)
 
-no_less : (k : ℕ) (xs : List Item) → labels_from k xs ≡ true → (l j : ℕ) → slice_get xs j ≡ Some (item.Label l) → k ≤ l
+pub no_less : (k : ℕ) (xs : List Item) → labels_from k xs ≡ true → (l j : ℕ) → slice_get xs j ≡ Some (item.Label l) → k ≤ l
 no_less k [] h l j e = absurd cc
 no_less k (x ∷ xs) h l zero e = let a = (at_label_is k l x xs (some_is e) h).0 in omega (arith, a)
 no_less k (x ∷ xs) h l (suc j) e =
@@ -308,7 +308,7 @@ no_less k (x ∷ xs) h l (suc j) e =
     let rest = no_less t.0 xs t.2 l j e in
     omega (arith, le, rest)
 
-differ_from : (k : ℕ) (xs : List Item) → labels_from k xs ≡ true → (l i j : ℕ) → slice_get xs i ≡ Some (item.Label l) → slice_get xs j ≡ Some (item.Label l) → i ≡ j
+pub differ_from : (k : ℕ) (xs : List Item) → labels_from k xs ≡ true → (l i j : ℕ) → slice_get xs i ≡ Some (item.Label l) → slice_get xs j ≡ Some (item.Label l) → i ≡ j
 differ_from k [] h l i j e f = absurd cc
 differ_from k (x ∷ xs) h l zero zero e f = refl
 differ_from k (x ∷ xs) h l zero (suc j) e f =

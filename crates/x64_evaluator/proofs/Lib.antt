@@ -1,0 +1,4 @@
+pub mod Doing
+pub mod Rising
+pub mod Sides
+pub mod Going

@@ -1,0 +1,29 @@
+use Rattle.std.proofs.Common.{◌≡◌, ◌+◌, sym, subst, ap, ◌∙◌, Some}
+use Rattle.std.specs.Prelude.{Ok, Err}
+use Rattle.std.proofs.lemmas.Result.{err_from_is_err_and}
+use Rattle.x64_syntax.specs.declared.items.Item.TheVariants as item
+use Rattle.x64_meaning.specs.Run.{does, act, Running}
+use Rattle.x64_evaluator.specs.Evaluated.{way}
+use Rattle.x64_evaluator.specs.Moves.{stands, moved, done}
+use Rattle.x64_evaluator.proofs.Going.{going, instruction_moves}
+use Rattle.x64_evaluator.proofs.run.pass.Goals as goal
+
+pub returns-in_err-do_ins-in-Ins-clause-moved : goal.returns-in_err-do_ins-in-Ins-clause-moved
+returns-in_err-do_ins-in-Ins-clause-moved c k =
+    let s = c.args.m.now in
+    let t = c.args.t.now in
+    let p = err_from_is_err_and c.from_residual.result c.from_residual.ensures.1 in
+    let here = c.requires.here ∙ ap Some c.in-Ins.is in
+    ap (λ r. stands r c.do_ins.new.m c.do_ins.new.t.seen) (p.1 ∙ ap Err p.2)
+    ∙ ap (going (c.args.at + 1)) c.in_err-do_ins-in-Ins.ensures.done
+    ∙ instruction_moves (does c.in-Ins.ins s) t.room c.args.at k s t.seen
+    ∙ sym (ap (λ o. moved t.room (way s t.seen k) (act c.args.items.now o Running c.args.at (way s t.seen k))) here)
+
+pub returns-in_ok-do_ins-in-Ins-clause-moved : goal.returns-in_ok-do_ins-in-Ins-clause-moved
+returns-in_ok-do_ins-in-Ins-clause-moved c k =
+    let s = c.args.m.now in
+    let t = c.args.t.now in
+    let here = c.requires.here ∙ ap Some c.in-Ins.is in
+    ap (going (c.args.at + 1)) c.in_ok-do_ins-in-Ins.ensures.done
+    ∙ instruction_moves (does c.in-Ins.ins s) t.room c.args.at k s t.seen
+    ∙ sym (ap (λ o. moved t.room (way s t.seen k) (act c.args.items.now o Running c.args.at (way s t.seen k))) here)

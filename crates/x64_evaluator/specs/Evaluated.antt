@@ -1,0 +1,58 @@
+-- Runs of items whose observations are kept, as far as there is room for them.
+use Rattle.std.specs.Prelude.{◌≡◌, ℕ, zero, suc, Bool, true, false, List, length, nat_le, if◌then◌else◌, Option, Some, None, slice_get}
+use Rattle.std.specs.List.{list_all}
+use Rattle.x64_syntax.specs.declared.items.Item.{Item}
+use Rattle.x64_syntax.specs.declared.items.Item.TheVariants as item
+use Rattle.x64_meaning.specs.declared.machine.Obs.{Obs}
+use Rattle.x64_meaning.specs.State.{State}
+use Rattle.x64_meaning.specs.Steps.{is_general}
+use Rattle.x64_meaning.specs.Run.{Way, run, Running, Stopped, Past}
+use Rattle.x64_meaning.specs.Run as machine
+use Rattle.x64_evaluator.specs.declared.end.End.{End}
+use Rattle.x64_evaluator.specs.declared.end.End.TheVariants.{Ended, Faulted, OffCode, Paused, TraceFull}
+
+-- the observations, and how many there is room for
+pub record Traced : Type 0 where
+  pub room : ℕ
+  pub seen : List Obs
+
+-- why a run ended, and how it stood
+pub record Halt : Type 0 where
+  pub end : End
+  pub way : Way
+
+abbrev pub halted : End → Way → Halt
+halted e w = record { end = e; way = w }
+
+-- goes on after a step, where its observation has room
+abbrev pub after_step : ℕ → Way → (ℕ → Way → Halt) → machine.End → Halt
+after_step room w next (Running pos v) = if nat_le (length v.seen) room then next pos v else halted TraceFull w
+after_step room w next (machine.Ended v) = halted Ended v
+after_step room w next (Stopped f) = halted (Faulted f) w
+after_step room w next Past = halted OffCode w
+
+-- At most so many steps, each a run of one step. A step isn't made that is a fault, and then one isn't made whose
+-- observation has no room.
+abbrev pub evaluated : List Item → ℕ → ℕ → ℕ → Way → Halt
+evaluated items room zero pos w = halted Paused w
+evaluated items room (suc n) pos w = after_step room w (evaluated items room n) (run items 1 pos w)
+
+-- the state of a run, what was seen and how many steps were made
+abbrev pub way : State → List Obs → ℕ → Way
+way s seen steps = record { state = s; seen = seen; steps = steps }
+
+-- an item without an xmm register
+abbrev pub is_general_item : Item → Bool
+is_general_item (item.Ins i) = is_general i
+is_general_item _ = true
+
+abbrev pub are_general : List Item → Bool
+are_general items = list_all is_general_item items
+
+-- an entry stands at this position
+abbrev pub is_entry : Option Item → Bool
+is_entry (Some (item.Entry name)) = true
+is_entry _ = false
+
+abbrev pub is_entry_at : List Item → ℕ → Bool
+is_entry_at items pos = is_entry (slice_get items pos)

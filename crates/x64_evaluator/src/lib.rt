@@ -1,0 +1,11 @@
+//! The evaluator: runs of items on a machine, with a trace of what an observer sees.
+#![tactic(auto)]
+
+mod end;
+mod places;
+mod run;
+mod trace;
+
+pub use end::{End, RunEnd};
+pub use run::{are_general, run_items};
+pub use trace::Trace;
