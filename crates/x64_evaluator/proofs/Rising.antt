@@ -1,5 +1,5 @@
 -- Labels in the order of the code rise, so a label is looked for on one side of another.
-use Rattle.std.proofs.Common.{◌≡◌, ℕ, zero, suc, ◌+◌, ◌<◌, ◌≤◌, true, false, List, [], ◌∷◌, Some, None, refl, sym, ap, ◌∙◌, arith, ◌⊎◌, inl, inr}
+use Rattle.std.proofs.Common.{◌≡◌, ℕ, zero, suc, ◌+◌, ◌-◌, ◌<◌, ◌≤◌, true, false, List, [], ◌∷◌, Some, None, refl, sym, ap, ◌∙◌, arith, ◌⊎◌, inl, inr}
 use Rattle.std.specs.Prelude.{slice_get, position}
 use Rattle.std.proofs.lemmas.Bool.{cases_lt}
 use Rattle.x64_syntax.specs.declared.items.Item.{Item}
@@ -22,6 +22,12 @@ rising k (x ∷ xs) h l m zero (suc j) lt e f =
 rising k (x ∷ xs) h l m (suc i) (suc j) lt e f =
     let t = tail_of k x xs h in
     rising t.0 xs t.2 l m i j (omega (arith, lt)) e f
+
+label_number : {l m : ℕ} → ◌≡◌ {A = Item} (Label l) (Label m) → l ≡ m
+label_number {l = l} e = ap number e where
+  number : Item → ℕ
+  number (Label n) = n
+  number _ = l
 
 module _ (items : List Item) (order : labels_from 0 items ≡ true) (label : ℕ) where
   stands_at : (f : Passes (is_label label) items) → slice_get items f.at ≡ Some (Label label)
@@ -53,15 +59,23 @@ module _ (items : List Item) (order : labels_from 0 items ≡ true) (label : ℕ
           by_side (inr le) = by_side_of (cases_lt j k)
             where
               same : k ≤ j → l ≡ label
-              same ge = let at : j ≡ k = omega (arith, le, ge) in label_same (sym h ∙ ap (λ n. slice_get items n) (sym at) ∙ e)
-                where
-                  label_same : ◌≡◌ {A = _} (Some (Label l)) (Some (Label label)) → l ≡ label
-                  label_same s = ap number (some_is s)
-                    where
-                      number : Item → ℕ
-                      number (Label n) = n
-                      number _ = l
+              same ge = let at : j ≡ k = omega (arith, le, ge) in label_number (some_is (sym h ∙ ap (λ n. slice_get items n) (sym at) ∙ e))
 
               by_side_of : (j < k) ⊎ (k ≤ j) → ⊥
               by_side_of (inl lt) = let up = rising 0 items order label l j k lt e h in absurd (omega (arith, up, less))
               by_side_of (inr ge) = let is = same ge in absurd (omega (arith, is, less))
+
+-- one place further to the front
+one_more : (items : List Item) (label at : ℕ) (x : Item) → 0 < at → slice_get items (at - 1) ≡ Some x → ((l : ℕ) → x ≡ Label l → label < l) → OnlyAbove items at label → OnlyAbove items (at - 1) label
+one_more items label at x some_ here above rest k l le h = by (cases_lt k at)
+  where
+    by : (k < at) ⊎ (at ≤ k) → label < l
+    by (inl lt) = let same : at - 1 ≡ k = omega (arith, le, lt) in above l (some_is (sym here ∙ ap (λ n. slice_get items n) same ∙ h))
+    by (inr ge) = rest k l ge h
+
+pub no_label : (items : List Item) (label at : ℕ) (x : Item) → 0 < at → slice_get items (at - 1) ≡ Some x → ((l : ℕ) → x ≡ Label l → ⊥) → OnlyAbove items at label → OnlyAbove items (at - 1) label
+no_label items label at x some_ here none rest = one_more items label at x some_ here (λ l e. absurd (none l e)) rest
+
+pub higher_label : (items : List Item) (label at other : ℕ) → 0 < at → slice_get items (at - 1) ≡ Some (Label other) → label < other → OnlyAbove items at label → OnlyAbove items (at - 1) label
+higher_label items label at other some_ here lt rest =
+    one_more items label at (Label other) some_ here (λ l e. let is = label_number e in omega (arith, lt, is)) rest
