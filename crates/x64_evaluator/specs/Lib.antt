@@ -1,3 +1,5 @@
 pub mod Evaluated
 pub mod Moves
 pub mod Places
+pub mod StateFile
+pub mod Setting

@@ -4,8 +4,11 @@
 mod end;
 mod places;
 mod run;
+mod settings;
+mod state;
 mod trace;
 
 pub use end::{End, RunEnd};
 pub use run::{are_general, run_items};
+pub use state::{StateFault, read_state};
 pub use trace::Trace;
