@@ -1,10 +1,9 @@
 -- Settings one behind the other.
 use Rattle.std.proofs.Common.{◌≡◌, ℕ, ◌+◌, ◌^◌, ◌<◌, ◌≤◌, pos, Bool, true, false, not, ◌||◌, List, [], ◌∷◌, ◌++◌, length, map, refl, sym, ap, ◌∙◌, subst, arith, ◌⊎◌, inl, inr, append_assoc, length-append, decimal, codes}
-use Rattle.std.specs.Prelude.{◌&&◌, nat_lt, nat_le, ◌≢◌, bytes_eq}
+use Rattle.std.specs.Prelude.{Result, Ok, Err, IfOk, ◌&&◌, nat_lt, nat_le, ◌≢◌, bytes_eq}
 use Rattle.std.specs.List.{list_any, list_all}
 use Rattle.std.specs.Str.{IsAscii}
 use Rattle.std.proofs.lemmas.Bool.{and_parts, and_from, and_left, and_right, lt-ltb, le-leb, lt-leb, false≢true, not-true, cases_lt}
-use Rattle.std.proofs.lemmas.Str.{IsAscii-append}
 use Rattle.std.proofs.lemmas.List.{append-nil}
 use Rattle.x64_syntax.specs.declared.places.Place.{Place}
 use Rattle.x64_syntax.specs.declared.places.Place.TheVariants.{Reg, Xmm, Flag}
@@ -106,8 +105,13 @@ block_taken ss b true old new h are adds same = (
     places = λ q. ap (λ s. in_set s q) same ∙ h.places q ∙ sym (any_more (sets q) ss (Block b));
   },
 )
-block_taken ss b false old new h are adds same s is follow = by adds (ap (may_follow ss) (sym is) ∙ follow)
+block_taken ss b false old new h are adds same = refused adds
   where
-    by : (2 ^ 64 < b.base + length b.bytes) ⊎ (list_any (meets b) old.machine.blocks ≡ true) → may_follow ss (Block b) ≡ true → ⊥
-    by (inl past) k = false≢true (sym (and_right (are_bytes b) _ (lt-leb _ _ past)) ∙ (and_parts (fits (Block b)) _ k).0)
-    by (inr overlap) k = clashing ss (Block b) (sym (blocks_meet b ss) ∙ ap (λ s. list_any (meets b) s.blocks) (sym h.machine) ∙ overlap) k
+    refused : (2 ^ 64 < b.base + length b.bytes) ⊎ (list_any (meets b) old.machine.blocks ≡ true) → (s : Setting) → s ≡ Block b → may_follow ss s ≡ true → ⊥
+    refused (inl past) s is k = false≢true (sym (and_right (are_bytes b) _ (lt-leb _ _ past)) ∙ (and_parts (fits (Block b)) _ (ap (may_follow ss) (sym is) ∙ k)).0)
+    refused (inr overlap) s is k =
+        clashing ss (Block b) (sym (blocks_meet b ss) ∙ ap (λ s. list_any (meets b) s.blocks) (sym h.machine) ∙ overlap) (ap (may_follow ss) (sym is) ∙ k)
+
+pub add_taken : {E : Type 0} (ss : List Setting) (b : Range) (r : Result Bool E) (old new : StateReader) → Holds ss old → are_bytes b ≡ true → IfOk r (λ yes. Adds old.machine b yes new.machine) → new.set ≡ old.set → IfOk r (λ yes. Takes ss (λ s. s ≡ Block b) yes new)
+add_taken ss b (Ok t) old new h are adds same = block_taken ss b t old new h are adds same
+add_taken ss b (Err e) old new h are adds same = tt

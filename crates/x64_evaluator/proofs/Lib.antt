@@ -6,3 +6,6 @@ pub mod PlaceNames
 pub mod Texts
 pub mod Taken
 pub mod Following
+pub mod Lines
+pub mod TextLines
+pub mod Reading

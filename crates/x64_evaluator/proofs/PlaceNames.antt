@@ -1,5 +1,7 @@
 -- Names of places: what they name, and what bytes they have.
-use Rattle.std.proofs.Common.{◌≡◌, List, ℕ, true, Option, Some, None, refl, ap, ◌∙◌}
+use Rattle.std.proofs.Common.{◌≡◌, true, refl, sym, ◌∙◌, codes, bytes_eq}
+use Rattle.std.proofs.lemmas.Bool.{and_parts, not-true, false≢true}
+use Rattle.std.proofs.lemmas.Slice.Eq.{bytes_eq-Decides}
 use Rattle.x64_syntax.specs.declared.places.Reg.{Reg as GeneralReg}
 use Rattle.x64_syntax.specs.declared.places.Reg.TheVariants.{Rax, Rbx, Rcx, Rdx, Rsi, Rdi, Rbp, Rsp, R8, R9, R10, R11, R12, R13, R14, R15}
 use Rattle.x64_syntax.specs.declared.places.Xmm.{Xmm as XmmReg}
@@ -8,52 +10,60 @@ use Rattle.x64_syntax.specs.declared.places.FlagName.{FlagName}
 use Rattle.x64_syntax.specs.declared.places.FlagName.TheVariants.{Cf, Zf, Sf, Of}
 use Rattle.x64_syntax.specs.declared.places.Place.{Place}
 use Rattle.x64_syntax.specs.declared.places.Place.TheVariants.{Reg, Xmm, Flag}
-use Rattle.x64_syntax.specs.Places.{reg_name, xmm_name, flag_name, place_name, reg_of, xmm_of, flag_of}
-use Rattle.x64_evaluator.specs.Setting.{graphic}
+use Rattle.x64_syntax.specs.Places.{reg_name, xmm_name, flag_name, place_name}
+use Rattle.x64_evaluator.specs.Setting.{is_word, graphic}
 
-pub reg_graphic : (r : GeneralReg) → graphic (reg_name r) ≡ true
-reg_graphic Rax = refl
-reg_graphic Rbx = refl
-reg_graphic Rcx = refl
-reg_graphic Rdx = refl
-reg_graphic Rsi = refl
-reg_graphic Rdi = refl
-reg_graphic Rbp = refl
-reg_graphic Rsp = refl
-reg_graphic R8 = refl
-reg_graphic R9 = refl
-reg_graphic R10 = refl
-reg_graphic R11 = refl
-reg_graphic R12 = refl
-reg_graphic R13 = refl
-reg_graphic R14 = refl
-reg_graphic R15 = refl
+pub reg_word : (r : GeneralReg) → is_word (reg_name r) ≡ true
+reg_word Rax = refl
+reg_word Rbx = refl
+reg_word Rcx = refl
+reg_word Rdx = refl
+reg_word Rsi = refl
+reg_word Rdi = refl
+reg_word Rbp = refl
+reg_word Rsp = refl
+reg_word R8 = refl
+reg_word R9 = refl
+reg_word R10 = refl
+reg_word R11 = refl
+reg_word R12 = refl
+reg_word R13 = refl
+reg_word R14 = refl
+reg_word R15 = refl
 
-pub xmm_graphic : (x : XmmReg) → graphic (xmm_name x) ≡ true
-xmm_graphic Xmm0 = refl
-xmm_graphic Xmm1 = refl
-xmm_graphic Xmm2 = refl
-xmm_graphic Xmm3 = refl
-xmm_graphic Xmm4 = refl
-xmm_graphic Xmm5 = refl
-xmm_graphic Xmm6 = refl
-xmm_graphic Xmm7 = refl
-xmm_graphic Xmm8 = refl
-xmm_graphic Xmm9 = refl
-xmm_graphic Xmm10 = refl
-xmm_graphic Xmm11 = refl
-xmm_graphic Xmm12 = refl
-xmm_graphic Xmm13 = refl
-xmm_graphic Xmm14 = refl
-xmm_graphic Xmm15 = refl
+pub xmm_word : (x : XmmReg) → is_word (xmm_name x) ≡ true
+xmm_word Xmm0 = refl
+xmm_word Xmm1 = refl
+xmm_word Xmm2 = refl
+xmm_word Xmm3 = refl
+xmm_word Xmm4 = refl
+xmm_word Xmm5 = refl
+xmm_word Xmm6 = refl
+xmm_word Xmm7 = refl
+xmm_word Xmm8 = refl
+xmm_word Xmm9 = refl
+xmm_word Xmm10 = refl
+xmm_word Xmm11 = refl
+xmm_word Xmm12 = refl
+xmm_word Xmm13 = refl
+xmm_word Xmm14 = refl
+xmm_word Xmm15 = refl
 
-pub flag_graphic : (f : FlagName) → graphic (flag_name f) ≡ true
-flag_graphic Cf = refl
-flag_graphic Zf = refl
-flag_graphic Sf = refl
-flag_graphic Of = refl
+pub flag_word : (f : FlagName) → is_word (flag_name f) ≡ true
+flag_word Cf = refl
+flag_word Zf = refl
+flag_word Sf = refl
+flag_word Of = refl
+
+pub name_word : (p : Place) → is_word (place_name p) ≡ true
+name_word (Reg r) = reg_word r
+name_word (Xmm x) = xmm_word x
+name_word (Flag f) = flag_word f
 
 pub name_graphic : (p : Place) → graphic (place_name p) ≡ true
-name_graphic (Reg r) = reg_graphic r
-name_graphic (Xmm x) = xmm_graphic x
-name_graphic (Flag f) = flag_graphic f
+name_graphic p = (and_parts (graphic (place_name p)) _ (name_word p)).0
+
+pub no_block : (p : Place) → codes "block" ≡ place_name p → ⊥
+no_block p e =
+    let differs = not-true (bytes_eq (place_name p) (codes "block")) (and_parts (graphic (place_name p)) _ (name_word p)).1 in
+    false≢true (sym differs ∙ (bytes_eq-Decides (place_name p) (codes "block")).1 (sym e))

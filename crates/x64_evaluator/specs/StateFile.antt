@@ -12,7 +12,7 @@ use Rattle.x64_evaluator.specs.declared.state.StateFault.{StateFault}
 use Rattle.x64_evaluator.specs.declared.state.StateFault.TheVariants.{Line, NoMemory}
 
 -- the lines of a text: each ends with byte 10, which the last may lack
-abbrev in_front : ℕ → List (List ℕ) → List (List ℕ)
+abbrev pub in_front : ℕ → List (List ℕ) → List (List ℕ)
 in_front b [] = (b ∷ []) ∷ []
 in_front b (l ∷ ls) = (b ∷ l) ∷ ls
 
