@@ -12,9 +12,9 @@ module _ (bytes rest line behind : List ℕ) (number : ℕ) (old new : StateRead
     settings = so.settings ++ takes.0 ∷ [];
     allowed = allowed_more [] so.settings takes.0 so.allowed takes.2;
     are =
-      so.are ∙ ap (λ l. map setting_text so.settings ++ l) (lines ∙ ap (λ l. l ∷ lines_of behind) (sym takes.1))
-      ∙ sym (append_assoc (map setting_text so.settings) (setting_text takes.0 ∷ []) (lines_of behind))
-      ∙ ap (λ l. l ++ lines_of behind) (sym (map-append setting_text so.settings (takes.0 ∷ [])));
+        so.are ∙ ap (λ l. map setting_text so.settings ++ l) (lines ∙ ap (λ l. l ∷ lines_of behind) (sym takes.1))
+        ∙ sym (append_assoc (map setting_text so.settings) (setting_text takes.0 ∷ []) (lines_of behind))
+        ∙ ap (λ l. l ++ lines_of behind) (sym (map-append setting_text so.settings (takes.0 ∷ [])));
     holds = takes.3;
     count = let n = so.count in let l = length-append so.settings (takes.0 ∷ []) in omega (arith, n, l);
   }

@@ -3,3 +3,4 @@ pub mod Moves
 pub mod Places
 pub mod StateFile
 pub mod Setting
+pub mod Report

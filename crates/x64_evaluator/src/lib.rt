@@ -3,12 +3,14 @@
 
 mod end;
 mod places;
+mod report;
 mod run;
 mod settings;
 mod state;
 mod trace;
 
 pub use end::{End, RunEnd};
+pub use report::report_of;
 pub use run::{are_general, run_items};
 pub use state::{StateFault, read_state};
 pub use trace::Trace;
