@@ -1,5 +1,5 @@
 -- What an instruction leaves beside what was seen so far: at most one observation more.
-use Rattle.std.proofs.Common.{◌≡◌, ℕ, ◌+◌, ◌<◌, ◌≤◌, Bool, true, false, List, [], ◌∷◌, ◌++◌, length, Option, Some, None, refl, sym, ap, ◌∙◌, subst, arith, leb, append-nil}
+use Rattle.std.proofs.Common.{◌≡◌, ℕ, ◌<◌, ◌≤◌, true, false, List, [], ◌∷◌, ◌++◌, length, Option, Some, None, refl, sym, ap, ◌∙◌, arith, append-nil}
 use Rattle.std.specs.Prelude.{Result, Ok, Err, nat_le, if◌then◌else◌}
 use Rattle.std.proofs.lemmas.Bool.{le-leb, lt-leb}
 use Rattle.std.proofs.lemmas.List.{length_push}
@@ -15,7 +15,7 @@ use Rattle.x64_meaning.specs.Run.{Outcome, Done, Faulted, Access, No, Loads, Sto
 use Rattle.x64_meaning.specs.Steps.{Steps, Foresees, last_of}
 use Rattle.x64_evaluator.specs.declared.end.End.{End}
 use Rattle.x64_evaluator.specs.declared.end.End.TheVariants as end
-use Rattle.x64_evaluator.specs.Moves.{Stand, stands, done, shown}
+use Rattle.x64_evaluator.specs.Moves.{stands, done, shown}
 
 abbrev list_of : Option Obs → List Obs
 list_of None = []

@@ -1,19 +1,18 @@
 -- Settings one behind the other.
-use Rattle.std.proofs.Common.{◌≡◌, ℕ, ◌+◌, ◌^◌, ◌<◌, ◌≤◌, pos, Bool, true, false, not, ◌||◌, List, [], ◌∷◌, ◌++◌, length, map, refl, sym, ap, ◌∙◌, subst, arith, ◌⊎◌, inl, inr, append_assoc, length-append, decimal, codes}
-use Rattle.std.specs.Prelude.{Result, Ok, Err, IfOk, ◌&&◌, nat_lt, nat_le, ◌≢◌, bytes_eq}
-use Rattle.std.specs.List.{list_any, list_all}
-use Rattle.std.specs.Str.{IsAscii}
-use Rattle.std.proofs.lemmas.Bool.{and_parts, and_from, and_left, and_right, lt-ltb, le-leb, lt-leb, false≢true, not-true, cases_lt}
+use Rattle.std.proofs.Common.{◌≡◌, ℕ, ◌+◌, ◌^◌, ◌<◌, Bool, true, false, not, ◌||◌, List, [], ◌∷◌, ◌++◌, length, refl, sym, ap, ◌∙◌, ◌⊎◌, inl, inr, append_assoc}
+use Rattle.std.specs.Prelude.{Result, Ok, Err, IfOk}
+use Rattle.std.specs.List.{list_any}
+use Rattle.std.proofs.lemmas.Bool.{and_parts, and_from, and_right, lt-ltb, le-leb, lt-leb, false≢true}
 use Rattle.std.proofs.lemmas.List.{append-nil}
 use Rattle.x64_syntax.specs.declared.places.Place.{Place}
 use Rattle.x64_syntax.specs.declared.places.Place.TheVariants.{Reg, Xmm, Flag}
-use Rattle.x64_syntax.specs.Places.{place_eq, place_name}
+use Rattle.x64_syntax.specs.Places.{place_eq}
 use Rattle.x64_syntax.specs.PlaceSets.{in_set}
 use Rattle.x64_blocks.specs.Memory.{Range, meets}
 use Rattle.x64_meaning.specs.State.{State}
 use Rattle.x64_evaluator.specs.declared.state.StateReader.{StateReader}
-use Rattle.x64_evaluator.specs.StateFile.{Setting, Value, Block, setting_text, value_text, range_text, bytes_text, limit, are_bytes, fits, clashes, may_follow, allowed, put, put_all, fresh}
-use Rattle.x64_evaluator.specs.Setting.{Holds, Takes, Adds, sets, Blankless, graphic}
+use Rattle.x64_evaluator.specs.StateFile.{Setting, Value, Block, limit, are_bytes, fits, clashes, may_follow, allowed, put, put_all, fresh}
+use Rattle.x64_evaluator.specs.Setting.{Holds, Takes, Adds, sets}
 
 pub put_more : (s : State) (xs : List Setting) (x : Setting) → put_all s (xs ++ x ∷ []) ≡ put (put_all s xs) x
 put_more s [] x = refl

@@ -1,5 +1,5 @@
 -- How runs go on after a step.
-use Rattle.std.proofs.Common.{◌≡◌, ℕ, zero, suc, ◌+◌, Bool, true, false, List, [], ◌++◌, length, Option, Some, None, refl, sym, ap, ◌∙◌, subst}
+use Rattle.std.proofs.Common.{◌≡◌, ℕ, ◌+◌, Bool, true, false, List, ◌++◌, length, Option, Some, None, refl, sym, ap, ◌∙◌}
 use Rattle.std.specs.Prelude.{Result, Ok, Err, nat_le, slice_get, position, if◌then◌else◌}
 use Rattle.std.specs.List.{find}
 use Rattle.x64_syntax.specs.declared.places.FlagName.{FlagName}

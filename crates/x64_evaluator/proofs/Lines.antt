@@ -1,6 +1,6 @@
 -- What a line of two words can set.
 use Rattle.std.proofs.Common.{◌≡◌, ℕ, ◌^◌, ◌<◌, Bool, true, false, List, [], ◌∷◌, ◌++◌, refl, sym, ap, ◌∙◌, arith, decimal, codes}
-use Rattle.std.specs.Prelude.{nat_lt, ◌&&◌, Result, Ok, Err, IfOk}
+use Rattle.std.specs.Prelude.{Result, Ok, Err, IfOk}
 use Rattle.std.specs.Str.{IsAscii, IsUtf8}
 use Rattle.std.proofs.lemmas.Bool.{and_parts, ltb-true}
 use Rattle.std.proofs.lemmas.Str.{IsUtf8-from_ascii, IsAscii-append}
@@ -12,7 +12,7 @@ use Rattle.x64_syntax.specs.Places.{place_name}
 use Rattle.x64_blocks.specs.Memory.{Range}
 use Rattle.x64_evaluator.specs.declared.state.StateReader.{StateReader}
 use Rattle.x64_evaluator.specs.StateFile.{Setting, Value, Block, setting_text, value_text, range_text, bytes_text, limit, are_bytes, fits, may_follow}
-use Rattle.x64_evaluator.specs.Setting.{Blankless, graphic, Takes}
+use Rattle.x64_evaluator.specs.Setting.{Blankless, Takes}
 use Rattle.x64_evaluator.proofs.PlaceNames.{name_graphic, no_block}
 use Rattle.x64_evaluator.proofs.Texts.{blankless, ascii, cut_same, decimal_graphic, few_digits}
 use Rattle.x64_evaluator.proofs.Taken.{small, range_base}

@@ -1,9 +1,9 @@
 -- State files line by line.
-use Rattle.std.proofs.Common.{◌≡◌, ℕ, ◌+◌, Bool, true, false, List, [], ◌∷◌, ◌++◌, length, map, refl, sym, ap, ◌∙◌, arith, append_assoc, length-append}
+use Rattle.std.proofs.Common.{◌≡◌, ℕ, ◌+◌, true, false, List, [], ◌∷◌, ◌++◌, map, sym, ap, ◌∙◌, arith, append_assoc, length-append}
 use Rattle.std.proofs.lemmas.List.{map-append}
 use Rattle.x64_evaluator.specs.declared.state.StateReader.{StateReader}
-use Rattle.x64_evaluator.specs.StateFile.{lines_of, Setting, setting_text, allowed, fresh, put_all, IsStateOf, StopsAt}
-use Rattle.x64_evaluator.specs.Setting.{Holds, Takes, ReadSoFar}
+use Rattle.x64_evaluator.specs.StateFile.{lines_of, setting_text, StopsAt}
+use Rattle.x64_evaluator.specs.Setting.{Takes, ReadSoFar}
 use Rattle.x64_evaluator.proofs.Following.{allowed_more}
 
 module _ (bytes rest line behind : List ℕ) (number : ℕ) (old new : StateReader) (so : ReadSoFar bytes rest number old) (lines : lines_of rest ≡ line ∷ lines_of behind) where

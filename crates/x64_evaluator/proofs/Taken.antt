@@ -1,6 +1,6 @@
 -- What the texts of settings are cut into.
-use Rattle.std.proofs.Common.{◌≡◌, ℕ, zero, suc, ◌+◌, ◌*◌, ◌^◌, ◌<◌, Bool, true, false, List, [], ◌∷◌, ◌++◌, length, get_or, decimal, Option, Some, None, option_map, refl, sym, ap, ◌∙◌, arith, subst}
-use Rattle.std.specs.Prelude.{nat_lt, nat_le, ◌&&◌, codes, bytes_eq, Result, Ok, Err, slice_index}
+use Rattle.std.proofs.Common.{◌≡◌, ℕ, zero, suc, ◌^◌, ◌<◌, true, false, List, [], ◌∷◌, ◌++◌, length, decimal, Option, Some, None, refl, sym, ap, ◌∙◌, arith}
+use Rattle.std.specs.Prelude.{nat_lt, codes, bytes_eq, Result, Ok, Err, slice_index}
 use Rattle.std.specs.List.{list_all}
 use Rattle.std.proofs.lemmas.Bool.{and_parts, and_from, ltb-true, lt-ltb, false≢true}
 use Rattle.std.proofs.lemmas.Slice.Eq.{bytes_eq-Decides}
@@ -11,7 +11,7 @@ use Rattle.x64_syntax.specs.declared.places.Place.{Place}
 use Rattle.x64_syntax.specs.declared.places.Place.TheVariants.{Reg, Xmm, Flag}
 use Rattle.x64_syntax.specs.Places.{place_name}
 use Rattle.x64_blocks.specs.Memory.{Range}
-use Rattle.x64_evaluator.specs.StateFile.{value_text, bytes_text, range_text, limit, are_bytes}
+use Rattle.x64_evaluator.specs.StateFile.{value_text, bytes_text, limit, are_bytes}
 use Rattle.x64_evaluator.specs.Setting.{Blankless}
 use Rattle.code_lower.proofs.First.{some_is}
 use Rattle.x64_evaluator.proofs.PlaceNames.{name_graphic}

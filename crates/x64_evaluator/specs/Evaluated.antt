@@ -1,5 +1,5 @@
 -- Runs of items whose observations are kept, as far as there is room for them.
-use Rattle.std.specs.Prelude.{◌≡◌, ℕ, zero, suc, Bool, true, false, List, length, nat_le, if◌then◌else◌, Option, Some, None, slice_get}
+use Rattle.std.specs.Prelude.{ℕ, zero, suc, Bool, true, false, List, length, nat_le, if◌then◌else◌, Option, Some, slice_get}
 use Rattle.std.specs.List.{list_all}
 use Rattle.x64_syntax.specs.declared.items.Item.{Item}
 use Rattle.x64_syntax.specs.declared.items.Item.TheVariants as item

@@ -1,4 +1,4 @@
-use Rattle.std.proofs.Common.{◌≡◌, ◌+◌, sym, ap, ◌∙◌, None, option_map}
+use Rattle.std.proofs.Common.{◌+◌, sym, ap, ◌∙◌, option_map}
 use Rattle.x64_meaning.specs.Run.{is_label}
 use Rattle.x64_evaluator.proofs.Sides.{ordered, place_in_front, place_in_back}
 use Rattle.x64_evaluator.proofs.places.place.Goals as goal

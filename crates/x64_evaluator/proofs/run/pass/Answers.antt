@@ -1,10 +1,9 @@
-use Rattle.std.proofs.Common.{◌≡◌, ◌+◌, sym, subst, ap, ◌∙◌, Some}
-use Rattle.std.specs.Prelude.{Ok, Err}
+use Rattle.std.proofs.Common.{◌+◌, sym, ap, ◌∙◌, Some}
+use Rattle.std.specs.Prelude.{Err}
 use Rattle.std.proofs.lemmas.Result.{err_from_is_err_and}
-use Rattle.x64_syntax.specs.declared.items.Item.TheVariants as item
 use Rattle.x64_meaning.specs.Run.{does, act, Running}
 use Rattle.x64_evaluator.specs.Evaluated.{way}
-use Rattle.x64_evaluator.specs.Moves.{stands, moved, done}
+use Rattle.x64_evaluator.specs.Moves.{stands, moved}
 use Rattle.x64_evaluator.proofs.Going.{going, instruction_moves}
 use Rattle.x64_evaluator.proofs.run.pass.Goals as goal
 

@@ -1,4 +1,4 @@
-use Rattle.std.proofs.Common.{◌≡◌, ℕ, ◌+◌, ◌≤◌}
+use Rattle.std.proofs.Common.{◌≡◌, ℕ, ◌+◌}
 use Rattle.x64_evaluator.specs.Evaluated.{evaluated, way}
 use Rattle.x64_evaluator.proofs.run.run_items.Given as goal
 

@@ -1,4 +1,4 @@
-use Rattle.std.proofs.Common.{◌≡◌, sym, ap, ◌∙◌, Some, codes, inl, inr}
+use Rattle.std.proofs.Common.{sym, ap, ◌∙◌, Some, codes, inl, inr}
 use Rattle.hex.specs.Hex.{decode_of}
 use Rattle.x64_evaluator.proofs.Taken.{some_items, decoded, not_refused, same_bytes}
 use Rattle.x64_evaluator.proofs.settings.bytes_of.Goals as goal

@@ -1,4 +1,4 @@
-use Rattle.std.proofs.Common.{◌≡◌, ◌^◌, arith}
+use Rattle.std.proofs.Common.{◌^◌, arith}
 use Rattle.std.proofs.lemmas.Bool.{and_from, lt-ltb}
 use Rattle.x64_evaluator.proofs.Taken.{bytes_fit}
 use Rattle.x64_evaluator.proofs.settings.fit.Goals as goal

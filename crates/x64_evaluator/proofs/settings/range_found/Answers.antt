@@ -1,6 +1,5 @@
-use Rattle.std.proofs.Common.{◌≡◌, ℕ, List, sym, ap, ◌∙◌, arith, decimal, None, Some, Option, Vec, option_map}
+use Rattle.std.proofs.Common.{◌≡◌, sym, ap, ◌∙◌, arith, decimal, None, Some, Option, option_map}
 use Rattle.std.proofs.lemmas.Str.Pattern.{split_after}
-use Rattle.x64_blocks.specs.Memory.{Range}
 use Rattle.x64_evaluator.specs.StateFile.{bytes_text}
 use Rattle.x64_evaluator.proofs.Taken.{base_blankless, range_base, range_bytes}
 use Rattle.x64_evaluator.proofs.settings.range_found.Goals as goal

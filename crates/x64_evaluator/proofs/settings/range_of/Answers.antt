@@ -1,4 +1,4 @@
-use Rattle.std.proofs.Common.{◌≡◌, ◌++◌, sym, ap, ◌∙◌, option_map}
+use Rattle.std.proofs.Common.{◌++◌, sym, ap, ◌∙◌, option_map}
 use Rattle.x64_evaluator.specs.StateFile.{range_text, are_bytes}
 use Rattle.x64_evaluator.specs.Setting.{range_seen}
 use Rattle.code_lower.proofs.First.{some_is}

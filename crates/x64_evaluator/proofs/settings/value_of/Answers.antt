@@ -1,4 +1,4 @@
-use Rattle.std.proofs.Common.{◌≡◌, ◌++◌, sym, ap, ◌∙◌, ltb}
+use Rattle.std.proofs.Common.{◌++◌, sym, ap, ◌∙◌, ltb}
 use Rattle.std.proofs.lemmas.Bool.{lt-ltb, ltb-true, false≢true}
 use Rattle.x64_evaluator.specs.StateFile.{value_text, limit}
 use Rattle.x64_evaluator.proofs.Taken.{value_cut, small, none_is, pair_first, same_bytes, other_bytes}

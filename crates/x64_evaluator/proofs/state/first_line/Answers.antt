@@ -1,4 +1,4 @@
-use Rattle.std.proofs.Common.{◌≡◌, ◌∷◌, sym, ap, ◌∙◌, arith, drop, take}
+use Rattle.std.proofs.Common.{◌∷◌, sym, ap, ◌∙◌, arith, drop}
 use Rattle.x64_evaluator.specs.StateFile.{lines_of}
 use Rattle.x64_evaluator.proofs.TextLines.{one_line, line_at}
 use Rattle.x64_evaluator.proofs.state.first_line.Goals as goal

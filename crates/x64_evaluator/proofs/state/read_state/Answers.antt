@@ -1,4 +1,4 @@
-use Rattle.std.proofs.Common.{◌≡◌, ◌+◌, subst, arith}
+use Rattle.std.proofs.Common.{◌≡◌, subst, arith}
 use Rattle.x64_evaluator.specs.StateFile.{setting_text}
 use Rattle.x64_evaluator.specs.Setting.{Takes}
 use Rattle.x64_evaluator.proofs.Reading.{one_more, stops}

@@ -1,4 +1,4 @@
-use Rattle.std.proofs.Common.{ℕ, length, ◌+◌, ◌≤◌}
+use Rattle.std.proofs.Common.{length, ◌+◌, ◌≤◌}
 use Rattle.x64_evaluator.specs.Setting.{ReadSoFar}
 use Rattle.x64_evaluator.proofs.state.read_state.Given as goal
 

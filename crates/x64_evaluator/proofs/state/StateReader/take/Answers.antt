@@ -1,9 +1,8 @@
-use Rattle.std.proofs.Common.{◌≡◌, ◌∷◌, ◌++◌, None, Some, sym, ap, subst, ◌∙◌, arith, codes}
+use Rattle.std.proofs.Common.{Some, sym, subst, ◌∙◌, arith, codes}
 use Rattle.std.specs.Str.{IsUtf8}
-use Rattle.std.proofs.lemmas.Str.Pattern.{split_after, split_parts}
-use Rattle.x64_evaluator.specs.StateFile.{setting_text}
+use Rattle.std.proofs.lemmas.Str.Pattern.{split_parts}
 use Rattle.x64_evaluator.specs.Setting.{IsValue, IsRange, range_seen}
-use Rattle.x64_evaluator.proofs.Lines.{text_utf8, word_in, rest_in, word_blankless, has_blank, adds_block, sets_no_block, sets_value, sets_no_value}
+use Rattle.x64_evaluator.proofs.Lines.{text_utf8, adds_block, sets_value}
 use Rattle.x64_evaluator.proofs.Taken.{same_bytes, other_bytes}
 use Rattle.x64_evaluator.proofs.state.StateReader.take.Goals as goal
 
