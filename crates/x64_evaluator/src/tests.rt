@@ -2,6 +2,7 @@
 
 use crate::{End, RunEnd, StateFault, Trace, are_general, read_state, report_of, run_items};
 use std::alloc::Global;
+use std::process::Abort;
 use std::test::Fail;
 use x64_meaning::{Fault, Machine, Obs};
 use x64_syntax::{AluOp, Cond, FlagName, Ins, Item, Mem, Opr, Reg, Text, program_ok};
