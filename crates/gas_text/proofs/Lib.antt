@@ -11,3 +11,4 @@ pub mod Machine
 pub mod Going
 pub mod Counting
 pub mod Once
+pub mod OneFault

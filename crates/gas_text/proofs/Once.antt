@@ -46,7 +46,7 @@ pub stays : (is : List Item) → program_ok is ≡ true → is_none (stray_jump 
 stays is h = (and_parts (is_ordered is) _ h).1
 
 -- a text of items has no bad line
-no_bad_line : (items : List Item) (n : ℕ) → is_ordered items ≡ true → BadLine (gas_text items) n → ⊥
+pub no_bad_line : (items : List Item) (n : ℕ) → is_ordered items ≡ true → BadLine (gas_text items) n → ⊥
 no_bad_line items n h (bad front line rest is clean begun no_more at) =
     no_more (record { items = items; rest = rest; ordered = h; is = is ∙ ap (λ t. front ++ t) (sym (append_assoc line (codes "\n") rest)) ∙ sym (append_assoc front (line ++ codes "\n") rest) })
 no_bad_line items n h (early front tail is clean begun no_text at) = no_text items h refl

@@ -11,6 +11,6 @@ mod tests;
 mod text;
 
 pub use fault::AsmFault;
-pub use laws::{one_text, printed_is_read};
+pub use laws::{one_fault, one_text, printed_is_read};
 pub use printer::print;
-pub use text::read;
+pub use text::{line_of, read};

@@ -1,6 +1,6 @@
 // Whole texts.
 
-ghost use Rattle.std.specs.Prelude.{◌≡◌, true, IfOk, IfErr};
+ghost use Rattle.std.specs.Prelude.{◌≡◌, ◌≤◌, ◌<◌, ◌+◌, ◌^◌, true, length, take, IfOk, IfErr};
 ghost use Rattle.std.specs.List.{list_all};
 ghost use Rattle.x64_syntax.specs.Programs.{is_item, is_ordered};
 ghost use Rattle.gas_text.specs.Gas.{items_text, gas_text};
@@ -53,6 +53,17 @@ fn line_count(items: &[Item]) -> u64
     count
 }
 
+/// The number of the line of an item in the text of a program, from 1: for an entry, that of its `.globl`. The text has
+/// fewer than 2^63 bytes, as each text in memory has.
+pub fn line_of(items: &[Item], place: usize) -> u64
+    requires items { list_all is_item items.now ≡ true }
+    requires within { place ≤ length items.now }
+    requires short { length (gas_text items.now) < 2 ^ 63 }
+    ensures { result ≡ newlines (gas_text (take place items.now)) + 1 }
+{
+    2 + line_count(items.split_at(place).0)
+}
+
 /// The program of a text in GAS syntax, or the first line that is none: see docs/COMMANDS.md. What [`print`] writes of
 /// items reads as these items, and no other text does. The time is linear in the text.
 ///
@@ -63,7 +74,7 @@ pub fn read(alloc: Global, text: &[u8]) -> Result<Vec<Item>, AsmFault>
 {
     let items = read_in_order(alloc, text)?;
     match stray_jump(items.as_slice()) {
-        Some(place) => Err(AsmFault::Label(2 + line_count(items.as_slice().split_at(place).0))),
+        Some(place) => Err(AsmFault::Label(line_of(items.as_slice(), place))),
         None => Ok(items),
     }
 }
