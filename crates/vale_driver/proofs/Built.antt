@@ -40,8 +40,8 @@ use Rattle.vale_driver.specs.Certificate.{Pair, Proves}
 use Rattle.vale_driver.specs.Ring.{ring_closes}
 use Rattle.vale_driver.specs.Terms.{is_built}
 use Rattle.vale_driver.specs.Build.{contract_of, is_changed, condition_hyps, condition_goal, steps_of, exports_of, lowered_code}
-use Rattle.vale_driver.specs.Outcome.{Build, Held, Holds, Accepted, IsBuilt}
-use Rattle.vale_driver.specs.Stops.{SourcesSpell, CertificateHeld}
+use Rattle.vale_driver.specs.Outcome.{Build, BuildFiles, BuildHolds, Accepted, IsBuilt}
+use Rattle.vale_driver.specs.Stops.{SourcesSpell, FileHolds}
 use Rattle.vale_driver.proofs.RingSound.{ring_sound}
 
 module _ (rs : List GeneralReg) where
@@ -178,7 +178,7 @@ exports p ok =
 pub program : (p : StraightLine) → IsStraight p → program_ok (lowered_code p) ≡ true
 program p ok = is_program (exports_of p) (exports p ok)
 
-pub built : (tells : List ℕ → Option (List ℕ)) (b : Build) (h : Held) (p : StraightLine) (ps : List Pair) (text : List ℕ) → IsStraight p → Holds tells b h → Accepted b h p ps → text ≡ gas_text (lowered_code p) → IsBuilt tells b text
+pub built : (tells : List ℕ → Option (List ℕ)) (b : Build) (h : BuildFiles) (p : StraightLine) (ps : List Pair) (text : List ℕ) → IsStraight p → BuildHolds tells b h → Accepted b h p ps → text ≡ gas_text (lowered_code p) → IsBuilt tells b text
 built tells b h p ps text ok holds accepted e =
     let reads : ReadsAs text (lowered_code p) = record { program = program p ok; is = sym e } in
     let closed = fits p ps ok accepted.closes in
@@ -194,7 +194,7 @@ built tells b h p ps text ok holds accepted e =
       same_runs = subst (λ l. SameRuns (contract_of p) l 0) (sym (straight_lowered p)) (straight_runs p.export p.instructions (contract_of p) closed);
     }
 
-pub built_from : (tells : List ℕ → Option (List ℕ)) (told : Option (List ℕ)) (cert : List ℕ) (files : List (List ℕ)) (p : StraightLine) (ps : List Pair) (text : List ℕ) → IsStraight p → SourcesSpell tells files p → told ≡ tells cert → CertificateHeld told (λ c. Proves c p.name ps) → ring_closes (condition_hyps p) (condition_goal p) ps ≡ true → text ≡ gas_text (lowered_code p) → IsBuilt tells (record { cert = cert; files = files }) text
+pub built_from : (tells : List ℕ → Option (List ℕ)) (told : Option (List ℕ)) (cert : List ℕ) (files : List (List ℕ)) (p : StraightLine) (ps : List Pair) (text : List ℕ) → IsStraight p → SourcesSpell tells files p → told ≡ tells cert → FileHolds told (λ c. Proves c p.name ps) → ring_closes (condition_hyps p) (condition_goal p) ps ≡ true → text ≡ gas_text (lowered_code p) → IsBuilt tells (record { cert = cert; files = files }) text
 built_from tells told cert files p ps text ok h same c closes e =
     built tells (record { cert = cert; files = files }) (record { sources = h.contents; cert = c.held }) p ps text ok
     record { sources = h.holds; cert = subst (λ o. IfSome o (λ t. c.held ≡ t)) same c.holds }

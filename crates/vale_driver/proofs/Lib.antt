@@ -12,3 +12,5 @@ pub mod Files
 pub mod Built
 pub mod Once
 pub mod Refused
+pub mod Quiet
+pub mod OneText

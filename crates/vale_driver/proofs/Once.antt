@@ -21,7 +21,7 @@ use Rattle.vale_driver.specs.Certificate.{Pair, Proves, certificate_at}
 use Rattle.vale_driver.specs.Ring.{ring_closes}
 use Rattle.vale_driver.specs.Build.{condition_hyps, condition_goal}
 use Rattle.vale_driver.specs.Sources.{Source, refusal, cause_of, FirstOf, Phase, now, later, IsShort, TooLong, HasTokens, NoToken, IsRead, HasDecls, NotADecl, Declared, Spells, NoForm}
-use Rattle.vale_driver.specs.Outcome.{Build, Held, EachHolds, Holds, TellsAll, sources_of, Behind, no_form, no_certificate, no_step, CertificateRefused, step_refusal, FirstRefusal, IsRefused, Accepted, Streams}
+use Rattle.vale_driver.specs.Outcome.{Build, BuildFiles, EachHolds, BuildHolds, BuildTold, sources_of, Behind, no_form, no_certificate, no_step, CertificateRefused, step_refusal, BuildRefusal, BuildRefused, Accepted, Streams}
 use Rattle.vale_driver.specs.Ends.{Outside, Asks, Ends, Quiet, Exactly, Unwritten, WroteText}
 use Rattle.vale_driver.proofs.Files.{tokens_of, are_read}
 use Rattle.vale_driver.proofs.CertificateLaws.{certificate_takes}
@@ -112,10 +112,7 @@ proves_once c name ps qs h k =
     same : {a b : List Pair} → Some a ≡ Some b → a ≡ b
     same e = cc
 
-none_some : {b : Build} → None ≡ Some b → ⊥
-none_some e = absurd cc
-
-module _ (b : Build) (h : Held) where
+module _ (b : Build) (h : BuildFiles) where
   certificate_apart : (p : StraightLine) (ps : List Pair) (r : Refusal) → Spells (sources_of b h) p → Proves h.cert p.name ps → CertificateRefused b h r → ⊥
   certificate_apart p ps r spells proves k =
       let e = spells_once (sources_of b h) p k.program spells k.spells in
@@ -138,7 +135,7 @@ module _ (b : Build) (h : Held) where
   behind_once r q (no_step x) (no_certificate y) = absurd (certificate_apart x.program x.steps q x.spells x.proves y)
   behind_once r q (no_step x) (no_step y) = x.is ∙ ap (λ (p : StraightLine). step_refusal b.cert p.name) (spells_once (sources_of b h) x.program y.program x.spells y.spells) ∙ sym y.is
 
-  pub refused_once : (r q : Refusal) → FirstRefusal b h r → FirstRefusal b h q → r ≡ q
+  pub refused_once : (r q : Refusal) → BuildRefusal b h r → BuildRefusal b h q → r ≡ q
   refused_once r q x y =
       phase_once IsShort TooLong short_apart long_once (sources_of b h) _
       (phase_once HasTokens NoToken tokens_apart token_once (sources_of b h) _
@@ -149,7 +146,7 @@ module _ (b : Build) (h : Held) where
   behind_none p ps r a (no_certificate x) = certificate_apart p ps r a.spells a.proves x
   behind_none p ps r a (no_step x) = false≢true (sym x.not_closed ∙ closes_same x.program p x.steps ps x.spells a.spells x.proves a.proves ∙ a.closes)
 
-  pub accepted_none : (p : StraightLine) (ps : List Pair) (r : Refusal) → Accepted b h p ps → FirstRefusal b h r → ⊥
+  pub accepted_none : (p : StraightLine) (ps : List Pair) (r : Refusal) → Accepted b h p ps → BuildRefusal b h r → ⊥
   accepted_none p ps r a x =
       phase_none IsShort TooLong short_apart (sources_of b h) _ r a.short
       (phase_none HasTokens NoToken tokens_apart (sources_of b h) _ r (tokens_of (sources_of b h) a.spells.decls a.spells.declared)
@@ -169,65 +166,8 @@ told_same tells (n ∷ ns) (x ∷ xs) (y ∷ ys) e h =
     let same : y ≡ x = subst (λ o. IfSome o (λ told. y ≡ told)) first h.0 in
     ap (λ z. z ∷ ys) same ∙ ap (λ l. x ∷ l) (told_same tells ns xs ys rest h.1)
 
-held_same : (tells : List ℕ → Option (List ℕ)) (b : Build) (h k : Held) → TellsAll tells b h → Holds tells b k → k ≡ h
+pub held_same : (tells : List ℕ → Option (List ℕ)) (b : Build) (h k : BuildFiles) → BuildTold tells b h → BuildHolds tells b k → k ≡ h
 held_same tells b h k t s =
     let sources = told_same tells b.files h.sources k.sources t.sources s.sources in
     let cert = subst (λ o. IfSome o (λ told. k.cert ≡ told)) t.cert s.cert in
     ap (λ x. record { sources = x; cert = k.cert }) sources ∙ ap (λ x. record { sources = h.sources; cert = x }) cert
-
--- The answer where no count rose follows from what is known after each answer.
-module _ (form : Option Build) (o : Outside) (s : Streams) (quiet : Quiet o) where
-  asked : (b : Build) (P : Build → Type 0) → form ≡ Some b → Asks form P → P b
-  asked b P e a = subst (λ f. Asks f P) e a
-
-  no_build : (P : Build → Type 0) → form ≡ None → Asks form P → ⊥
-  no_build P e a = subst (λ f. Asks f P) e a
-
-  written : Unwritten form o s → ⊥
-  written (inl u) = quiet.out u.0
-  written (inr u) = quiet.err u.0
-
-  quiet_usage : (status : Status) → Ends form o s status → form ≡ None → status ≡ Usage
-  quiet_usage Done h e = absurd (no_build _ e h)
-  quiet_usage (Refused r) h e = absurd (no_build _ e h.0)
-  quiet_usage Usage h e = refl
-  quiet_usage ReadFault h e = absurd (quiet.store h.1.0)
-  quiet_usage WriteFault h e = absurd (written h)
-  quiet_usage NoMemory h e = absurd (false≢true (subst IsSome e h.0))
-
-  quiet_refused : (status : Status) (b : Build) (h : Held) (r : Refusal) → Ends form o s status → form ≡ Some b → TellsAll o.tells b h → FirstRefusal b h r → (status ≡ Refused r) ⊎ (status ≡ NoMemory)
-  quiet_refused Done b h r ends e t f =
-      let w = asked b (λ b. WroteText o.tells b s) e ends in
-      absurd (accepted_none b h w.built.program w.built.steps r (subst (λ k. Accepted b k w.built.program w.built.steps) (held_same o.tells b h w.built.held t w.built.holds) w.built.accepted) f)
-  quiet_refused (Refused q) b h r ends e t f =
-      let w = asked b (λ b. IsRefused o.tells b q) e ends.0 in
-      inl (ap Refused (refused_once b h q r (subst (λ k. FirstRefusal b k q) (held_same o.tells b h w.held t w.holds) w.first) f))
-  quiet_refused Usage b h r ends e t f = absurd (none_some (sym ends.0 ∙ e))
-  quiet_refused ReadFault b h r ends e t f = absurd (quiet.store ends.1.0)
-  quiet_refused WriteFault b h r ends e t f = absurd (written ends)
-  quiet_refused NoMemory b h r ends e t f = inr refl
-
-  quiet_done : (status : Status) (b : Build) (h : Held) → Ends form o s status → form ≡ Some b → TellsAll o.tells b h → ((r : Refusal) → FirstRefusal b h r → ⊥) → (status ≡ Done) ⊎ (status ≡ NoMemory)
-  quiet_done Done b h ends e t f = inl refl
-  quiet_done (Refused q) b h ends e t f =
-      let w = asked b (λ b. IsRefused o.tells b q) e ends.0 in
-      absurd (f q (subst (λ k. FirstRefusal b k q) (held_same o.tells b h w.held t w.holds) w.first))
-  quiet_done Usage b h ends e t f = absurd (none_some (sym ends.0 ∙ e))
-  quiet_done ReadFault b h ends e t f = absurd (quiet.store ends.1.0)
-  quiet_done WriteFault b h ends e t f = absurd (written ends)
-  quiet_done NoMemory b h ends e t f = inr refl
-
-pub ends_exactly : (form : Option Build) (o : Outside) (s : Streams) (status : Status) → Ends form o s status → Exactly form o status
-ends_exactly form o s status ends = λ quiet. record {
-  usage = quiet_usage form o s quiet status ends;
-  refused = λ b h r. quiet_refused form o s quiet status b h r ends;
-  done = λ b h. quiet_done form o s quiet status b h ends;
-}
-
-pub usage_exactly : (form : Option Build) (o : Outside) (status : Status) (X Y : Type 0) → form ≡ None → ((status ≡ Usage) × X) ⊎ ((status ≡ WriteFault) × (Rose o.err_old o.err_new × Y)) → Exactly form o status
-usage_exactly form o status X Y none (inl said) = λ quiet. record {
-  usage = λ e. said.0;
-  refused = λ b h r e t f. absurd (none_some (sym none ∙ e));
-  done = λ b h e t f. absurd (none_some (sym none ∙ e));
-}
-usage_exactly form o status X Y none (inr failed) = λ quiet. absurd (quiet.err failed.1.0)

@@ -10,3 +10,6 @@ pub mod Codes
 pub mod Stops
 pub mod Phases
 pub mod Ends
+pub mod Words
+pub mod Listed
+pub mod Commands

@@ -7,38 +7,12 @@ use Rattle.x64_meaning.specs.Contract.{Meets, SameRuns}
 use Rattle.vale_outside.specs.Outside.{Appends, AppendsFront}
 use Rattle.vale_driver.specs.declared.status.Refusal.{Refusal}
 use Rattle.straight_line.specs.declared.form.StraightLine.{StraightLine}
-use Rattle.vale_driver.specs.Reading.{given}
+use Rattle.vale_driver.specs.Words.{Build}
 use Rattle.vale_driver.specs.Sources.{Source, numbered, refusal, IsShort, Spells, NoForm, Phases}
 use Rattle.vale_driver.specs.Certificate.{Pair, Proves}
 use Rattle.vale_driver.specs.Ring.{ring_closes}
 use Rattle.vale_driver.specs.Build.{contract_of, condition_hyps, condition_goal, lowered_code}
 use Rattle.gas_text.specs.Text.{ReadsAs}
-
--- the files that the words of a build name
-pub record Build : Type 0 where
-  pub cert : List ℕ
-  pub files : List (List ℕ)
-
--- the most source files
-abbrev pub file_limit : ℕ
-file_limit = 16
-
--- a value of an option, or a file's name
-abbrev pub is_value : List ℕ → Bool
-is_value [] = false
-is_value (b ∷ bs) = not (b == 45)
-
-abbrev pub is_build : List ℕ → List ℕ → List ℕ → List ℕ → Bool
-is_build command syntax gas option =
-    (bytes_eq command (codes "build") && bytes_eq syntax (codes "--syntax")) && (bytes_eq gas (codes "gas") && bytes_eq option (codes "--cert"))
-
-abbrev pub are_files : List (List ℕ) → Bool
-are_files files = (nat_le 1 (length files) && nat_le (length files) file_limit) && list_all is_value files
-
--- `build --syntax gas --cert CERT FILE..`
-abbrev pub form : List (List ℕ) → Option Build
-form (command ∷ syntax ∷ gas ∷ option ∷ cert ∷ files) = given (is_build command syntax gas option && (is_value cert && are_files files)) record { cert = cert; files = files }
-form _ = None
 
 abbrev pub or_dash : Option (List ℕ) → List ℕ
 or_dash None = codes "-"
@@ -60,7 +34,7 @@ unfoldable pub read_fault_line : List ℕ
 read_fault_line = codes "read fault\n"
 
 -- What the files of a build hold.
-pub record Held : Type 0 where
+pub record BuildFiles : Type 0 where
   pub sources : List (List ℕ)
   pub cert : List ℕ
 
@@ -70,16 +44,16 @@ EachHolds tells [] [] = Unit {0}
 EachHolds tells (n ∷ ns) (c ∷ cs) = IfSome (tells n) (λ told. c ≡ told) × EachHolds tells ns cs
 EachHolds tells _ _ = ⊥
 
-pub record Holds (tells : List ℕ → Option (List ℕ)) (b : Build) (h : Held) : Type 0 where
+pub record BuildHolds (tells : List ℕ → Option (List ℕ)) (b : Build) (h : BuildFiles) : Type 0 where
   pub sources : EachHolds tells b.files h.sources
   pub cert : IfSome (tells b.cert) (λ told. h.cert ≡ told)
 
 -- all that the files hold is told
-pub record TellsAll (tells : List ℕ → Option (List ℕ)) (b : Build) (h : Held) : Type 0 where
+pub record BuildTold (tells : List ℕ → Option (List ℕ)) (b : Build) (h : BuildFiles) : Type 0 where
   pub sources : map tells b.files ≡ map Some h.sources
   pub cert : tells b.cert ≡ Some h.cert
 
-abbrev pub sources_of : Build → Held → List Source
+abbrev pub sources_of : Build → BuildFiles → List Source
 sources_of b h = numbered 0 b.files h.sources
 
 -- the first line of the certificate, and its step
@@ -90,14 +64,14 @@ abbrev pub step_refusal : List ℕ → List ℕ → Refusal
 step_refusal cert name = record { number = 11; file = Some cert; at = Some 2; who = Some (name ++ codes "()#0"); cause = codes "step 0" }
 
 -- The sources are of the form, and the certificate isn't.
-pub record CertificateRefused (b : Build) (h : Held) (r : Refusal) : Type 0 where
+pub record CertificateRefused (b : Build) (h : BuildFiles) (r : Refusal) : Type 0 where
   pub program : StraightLine
   pub spells : Spells (sources_of b h) program
   pub not_of_form : (steps : List Pair) → Proves h.cert program.name steps → ⊥
   pub is : r ≡ certificate_refusal b.cert
 
 -- All are of their form, and the certificate's step doesn't apply.
-pub record StepRefused (b : Build) (h : Held) (r : Refusal) : Type 0 where
+pub record StepRefused (b : Build) (h : BuildFiles) (r : Refusal) : Type 0 where
   pub program : StraightLine
   pub steps : List Pair
   pub spells : Spells (sources_of b h) program
@@ -106,24 +80,24 @@ pub record StepRefused (b : Build) (h : Held) (r : Refusal) : Type 0 where
   pub is : r ≡ step_refusal b.cert program.name
 
 -- a refusal that comes after all phases of the sources
-pub data Behind (b : Build) (h : Held) (r : Refusal) : Type 0 where
+pub data Behind (b : Build) (h : BuildFiles) (r : Refusal) : Type 0 where
   no_form : NoForm (slice_get b.files 0) (sources_of b h) r → Behind b h r
   no_certificate : CertificateRefused b h r → Behind b h r
   no_step : StepRefused b h r → Behind b h r
 
 -- The first refusal: files that are too long, then texts without tokens, then tokens that aren't declarations, each over
 -- all source files; then sources of no form that is built, the certificate's form, and its step.
-abbrev pub FirstRefusal : Build → Held → Refusal → Type 0
-FirstRefusal b h r = Phases (sources_of b h) (Behind b h) r
+abbrev pub BuildRefusal : Build → BuildFiles → Refusal → Type 0
+BuildRefusal b h r = Phases (sources_of b h) (Behind b h) r
 
 -- the files hold what is told of them, and this is the first refusal
-pub record IsRefused (tells : List ℕ → Option (List ℕ)) (b : Build) (r : Refusal) : Type 0 where
-  pub held : Held
-  pub holds : Holds tells b held
-  pub first : FirstRefusal b held r
+pub record BuildRefused (tells : List ℕ → Option (List ℕ)) (b : Build) (r : Refusal) : Type 0 where
+  pub held : BuildFiles
+  pub holds : BuildHolds tells b held
+  pub first : BuildRefusal b held r
 
 -- nothing is refused
-pub record Accepted (b : Build) (h : Held) (p : StraightLine) (steps : List Pair) : Type 0 where
+pub record Accepted (b : Build) (h : BuildFiles) (p : StraightLine) (steps : List Pair) : Type 0 where
   pub short : AllByRecursion IsShort (sources_of b h)
   pub spells : Spells (sources_of b h) p
   pub proves : Proves h.cert p.name steps
@@ -134,8 +108,8 @@ pub record Accepted (b : Build) (h : Held) (p : StraightLine) (steps : List Pair
 -- promises and changes only declared places. Of any two such starts that agree on what is public, the runs take as many
 -- steps and make the same observations.
 pub record IsBuilt (tells : List ℕ → Option (List ℕ)) (b : Build) (text : List ℕ) : Type 0 where
-  pub held : Held
-  pub holds : Holds tells b held
+  pub held : BuildFiles
+  pub holds : BuildHolds tells b held
   pub program : StraightLine
   pub steps : List Pair
   pub accepted : Accepted b held program steps

@@ -1,5 +1,5 @@
 -- What the phases over the source files leave to each other.
-use Rattle.std.specs.Prelude.{◌≡◌, ℕ, List, [], ◌∷◌, ◌++◌, map, Option, String, string_bytes}
+use Rattle.std.specs.Prelude.{◌≡◌, ◌≤◌, ℕ, length, List, [], ◌∷◌, ◌++◌, map, Option, String, string_bytes}
 use Rattle.std.specs.List.{AllByRecursion}
 use Rattle.std.specs.declared.alloc.Global.{Global}
 use Rattle.vale_syntax.specs.Tokens.{Lexed, All, lexed}
@@ -10,7 +10,8 @@ use Rattle.vale_driver.specs.declared.sources.Source.{Source as AFile}
 use Rattle.vale_driver.specs.declared.sources.Scanned.{Scanned}
 use Rattle.vale_parser.specs.Sources.{StopsAt}
 use Rattle.vale_syntax.specs.declared.spot.Spot.{Spot}
-use Rattle.std.specs.Prelude.{Some, codes}
+use Rattle.std.specs.Prelude.{Some, codes, option_map}
+use Rattle.std.specs.Borrow.{Bor}
 use Rattle.vale_driver.specs.declared.status.Refusal.{Refusal}
 use Rattle.vale_lexer.specs.declared.scan.LexFault.{LexFault}
 use Rattle.vale_lexer.specs.declared.scan.LexFault.TheVariants.{BadByte, NumberTooLarge, OpenComment, NoMemory}
@@ -18,7 +19,12 @@ use Rattle.vale_driver.specs.declared.stop.Stop.{Stop}
 use Rattle.vale_driver.specs.declared.stop.Stop.TheVariants.{Refused}
 use Rattle.vale_driver.specs.declared.stop.Stop.TheVariants as stop
 use Rattle.vale_driver.specs.Sources.{Source, numbered, refusal, IsShort}
-use Rattle.vale_driver.specs.Outcome.{Build, EachHolds}
+use Rattle.vale_driver.specs.Outcome.{EachHolds}
+use Rattle.vale_driver.specs.Words.{Build, Evaluation, Command, Builds, Lists, Evaluates, Options}
+use Rattle.vale_driver.specs.declared.words.EvalWords.{EvalWords}
+use Rattle.vale_driver.specs.declared.words.Options.{Options as SomeOptions}
+use Rattle.vale_driver.specs.declared.words.Command.{Command as ACommand}
+use Rattle.vale_driver.specs.declared.words.Command.TheVariants.{Build as ABuild, Read as ARead, Eval as AnEval}
 
 -- words as texts
 abbrev pub texts : List (String Global) → List (List ℕ)
@@ -67,3 +73,30 @@ no_token file NoMemory = stop.NoMemory
 
 abbrev pub build_of : BuildWords → Build
 build_of b = record { cert = b.cert.now; files = texts b.files.now }
+
+abbrev pub evaluation_of : EvalWords → Evaluation
+evaluation_of e = record { text = e.text.now; entry = e.entry.now; state = e.state.now; steps = e.steps }
+
+abbrev pub command_of : ACommand → Command
+command_of (ABuild b) = Builds (build_of b)
+command_of (ARead text) = Lists text.now
+command_of (AnEval e) = Evaluates (evaluation_of e)
+
+-- the values of options as they are kept
+abbrev pub options_of : SomeOptions → Options
+options_of o = record {
+  syntax = option_map (λ v. v.now) o.syntax;
+  cert = option_map (λ v. v.now) o.cert;
+  entry = option_map (λ v. v.now) o.entry;
+  state = option_map (λ v. v.now) o.state;
+  steps = option_map (λ v. v.now) o.steps;
+}
+
+abbrev pub words_left : SomeOptions × Bor (List (String Global)) → Options × List (List ℕ)
+words_left p = (options_of p.0, texts p.1.now)
+
+-- a build has at most 16 source files
+abbrev pub FewFiles : ACommand → Type 0
+FewFiles (ABuild b) = length b.files.now ≤ 16
+FewFiles (ARead text) = Unit {0}
+FewFiles (AnEval e) = Unit {0}

@@ -9,7 +9,7 @@ use Rattle.vale_driver.specs.declared.stop.Stop.{Stop}
 use Rattle.vale_driver.specs.declared.stop.Stop.TheVariants.{Refused, ReadFault, NoMemory}
 use Rattle.vale_driver.specs.Sources.{numbered, IsShort, Spells}
 use Rattle.vale_driver.specs.Certificate.{Pair, Proves}
-use Rattle.vale_driver.specs.Outcome.{EachHolds, certificate_refusal, FirstRefusal}
+use Rattle.vale_driver.specs.Outcome.{EachHolds, certificate_refusal, BuildRefusal}
 
 -- a refusal of which this is so, a fault of the store, or want of memory
 abbrev pub StopsBy : (Refusal → Type 0) → Type 0 → Stop → Type 0
@@ -37,10 +37,10 @@ pub record SourcesSpell (tells : List ℕ → Option (List ℕ)) (files : List (
 pub record SourcesRefused (tells : List ℕ → Option (List ℕ)) (files : List (List ℕ)) (r : Refusal) : Type 0 where
   pub contents : List (List ℕ)
   pub holds : EachHolds tells files contents
-  pub first : (name cert : List ℕ) → FirstRefusal (record { cert = name; files = files }) (record { sources = contents; cert = cert }) r
+  pub first : (name cert : List ℕ) → BuildRefusal (record { cert = name; files = files }) (record { sources = contents; cert = cert }) r
 
 -- what a file holds, as is told of it where something is
-pub record CertificateHeld (told : Option (List ℕ)) (Reads : List ℕ → Type 0) : Type 0 where
+pub record FileHolds (told : Option (List ℕ)) (Reads : List ℕ → Type 0) : Type 0 where
   pub held : List ℕ
   pub holds : IfSome told (λ t. held ≡ t)
   pub reads : Reads held
@@ -48,4 +48,4 @@ pub record CertificateHeld (told : Option (List ℕ)) (Reads : List ℕ → Type
 -- the certificate isn't of the form
 pub record CertificateRefusal (told : Option (List ℕ)) (cert name : List ℕ) (r : Refusal) : Type 0 where
   pub is : r ≡ certificate_refusal cert
-  pub none : CertificateHeld told (λ c. (steps : List Pair) → Proves c name steps → ⊥)
+  pub none : FileHolds told (λ c. (steps : List Pair) → Proves c name steps → ⊥)

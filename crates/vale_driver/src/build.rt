@@ -9,8 +9,8 @@ ghost use Rattle.vale_driver.specs.Ring.{ring_closes};
 ghost use Rattle.vale_driver.specs.Terms.{is_built};
 ghost use Rattle.vale_driver.specs.Build.{condition_hyps, condition_goal};
 ghost use Rattle.vale_driver.specs.Phases.{texts, build_of};
-ghost use Rattle.vale_driver.specs.Outcome.{IsBuilt, IsRefused, certificate_refusal, step_refusal};
-ghost use Rattle.vale_driver.specs.Stops.{StopsBy, CertificateHeld, CertificateRefusal};
+ghost use Rattle.vale_driver.specs.Outcome.{IsBuilt, BuildRefused, certificate_refusal, step_refusal};
+ghost use Rattle.vale_driver.specs.Stops.{StopsBy, FileHolds, CertificateRefusal};
 
 use crate::certificate::{CertificateFault, Pair, read_certificate};
 use crate::code::items_of;
@@ -59,7 +59,7 @@ fn certificate_file<S: Store>(
     name: &[u8],
 ) -> Result<Vec<Pair>, Stop>
     requires { IsTrue (S.may_ask store.old cert.now) }
-    ensures found { IfOk result (λ v. CertificateHeld (S.tells store.old cert.now) (λ c. Proves c name.now v.items)) }
+    ensures found { IfOk result (λ v. FileHolds (S.tells store.old cert.now) (λ c. Proves c name.now v.items)) }
     ensures stops { IfErr result (StopsBy (CertificateRefusal (S.tells store.old cert.now) cert.now name.now) (Rose (S.faults store.old) (S.faults store.new))) }
     ensures count { S.faults store.old ≤ S.faults store.new }
 {
@@ -93,7 +93,7 @@ pub(crate) fn build<S: Store>(
     requires cert { IsTrue (S.may_ask store.old words.cert.now) }
     requires files { AllByRecursion (λ f. IsTrue (S.may_ask store.old f)) (texts words.files.now) }
     ensures built { IfOk result (λ text. IsBuilt (S.tells store.old) (build_of words.entry) text.items) }
-    ensures stops { IfErr result (StopsBy (IsRefused (S.tells store.old) (build_of words.entry)) (Rose (S.faults store.old) (S.faults store.new))) }
+    ensures stops { IfErr result (StopsBy (BuildRefused (S.tells store.old) (build_of words.entry)) (Rose (S.faults store.old) (S.faults store.new))) }
     ensures count { S.faults store.old ≤ S.faults store.new }
 {
     let program = read_sources(alloc, store, words.files)?;

@@ -5,6 +5,8 @@ mod build;
 mod certificate;
 mod code;
 mod condition;
+mod evaluation;
+mod listing;
 mod program;
 mod reading;
 mod report;

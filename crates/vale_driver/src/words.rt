@@ -1,12 +1,20 @@
 // The words of the command line.
 
-ghost use Rattle.std.specs.Prelude.{◌≡◌, ◌≤◌, length, IfSome};
+ghost use Rattle.std.specs.Prelude.{◌≡◌, ◌≤◌, length, IfSome, Some};
 ghost use Rattle.std.specs.Option.{option_map};
-ghost use Rattle.vale_driver.specs.Outcome.{form, is_build, is_value, are_files};
-ghost use Rattle.vale_driver.specs.Phases.{texts, build_of};
+ghost use Rattle.vale_driver.specs.Words.{once, with_option, is_option, no_options, read_options, build_form, read_form, eval_form, command_form, form, is_value, are_files, is_number, steps_of};
+ghost use Rattle.vale_driver.specs.Phases.{texts, options_of, words_left, command_of, FewFiles};
+
+use x64_syntax::is_digit;
 
 /// The most source files.
 const FILE_LIMIT: usize = 16;
+
+/// The most steps of a run.
+const STEP_LIMIT: u64 = 10_000_000;
+
+/// The most digits of a number.
+const DIGIT_LIMIT: usize = 20;
 
 /// The files that a build's words name.
 #[derive(Clone, Copy)]
@@ -15,28 +23,170 @@ pub(crate) struct BuildWords<'a> {
     pub(crate) files: &'a [String],
 }
 
-/// The build that the words ask for: exactly `build --syntax gas --cert CERT FILE..`, with 1 to 16 files.
-pub(crate) fn read_words(words: &[String]) -> Option<BuildWords<'_>>
-    ensures form { option_map build_of result ≡ form (texts words.now) }
-    ensures few { IfSome result (λ b. length b.files.now ≤ 16) }
+/// What the words of a run name.
+#[derive(Clone, Copy)]
+pub(crate) struct EvalWords<'a> {
+    pub(crate) text: &'a str,
+    pub(crate) entry: &'a str,
+    pub(crate) state: &'a str,
+    pub(crate) steps: u64,
+}
+
+/// What the words ask for.
+#[derive(Clone, Copy)]
+pub(crate) enum Command<'a> {
+    Build(BuildWords<'a>),
+    Read(&'a str),
+    Eval(EvalWords<'a>),
+}
+
+// The values of the options.
+#[derive(Clone, Copy)]
+struct Options<'a> {
+    syntax: Option<&'a str>,
+    cert: Option<&'a str>,
+    entry: Option<&'a str>,
+    state: Option<&'a str>,
+    steps: Option<&'a str>,
+}
+
+// A value that an option has not yet.
+fn once<'a>(old: Option<&'a str>, value: &'a str) -> Option<&'a str>
+    ensures { option_map (λ v. v.now) result ≡ once (option_map (λ v. v.now) old) value.now }
 {
-    let [command, syntax, gas, option, cert, files @ ..] = words else {
-        return None;
-    };
-    if is_build(command, syntax, gas, option) && is_value(cert) && are_files(files) {
-        Some(BuildWords { cert, files })
+    if old.is_none() && is_value(value) {
+        Some(value)
     } else {
         None
     }
 }
 
-fn is_build(command: &str, syntax: &str, gas: &str, option: &str) -> bool
-    ensures { result ≡ is_build command.now syntax.now gas.now option.now }
-{
-    if command != "build" || syntax != "--syntax" {
-        return false;
+impl<'a> Options<'a> {
+    fn with(self, name: &str, value: &'a str) -> Option<Self>
+        ensures { option_map options_of result ≡ with_option (options_of self.entry) name.now value.now }
+    {
+        let mut options = self;
+        match name {
+            "--syntax" => options.syntax = Some(once(self.syntax, value)?),
+            "--cert" => options.cert = Some(once(self.cert, value)?),
+            "--entry" => options.entry = Some(once(self.entry, value)?),
+            "--state" => options.state = Some(once(self.state, value)?),
+            "--steps" => options.steps = Some(once(self.steps, value)?),
+            _ => return None,
+        }
+        Some(options)
     }
-    gas == "gas" && option == "--cert"
+}
+
+fn is_option(word: &str) -> bool
+    ensures { result ≡ is_option word.now }
+{
+    match word.as_bytes() {
+        [first, ..] => *first == b'-',
+        [] => false,
+    }
+}
+
+// The options that stand first, and the words behind them.
+fn read_options<'a>(
+    options: Options<'a>,
+    words: &'a [String],
+) -> Option<(Options<'a>, &'a [String])>
+    ensures { option_map words_left result ≡ read_options (options_of options.entry) (texts words.now) }
+{
+    let [word, rest @ ..] = words else {
+        return Some((options, words));
+    };
+    if !is_option(word) {
+        return Some((options, words));
+    }
+    if let Some((name, value)) = word.split_once('=') {
+        return read_options(options.with(name, value)?, rest);
+    }
+    let [value, rest @ ..] = rest else {
+        return None;
+    };
+    read_options(options.with(word, value)?, rest)
+}
+
+fn build_words<'a>(options: Options<'a>, files: &'a [String]) -> Option<Command<'a>>
+    ensures { option_map command_of result ≡ build_form (options_of options.entry).syntax (options_of options.entry).cert (options_of options.entry).entry (options_of options.entry).state (options_of options.entry).steps (texts files.now) }
+{
+    match options {
+        Options {
+            syntax: Some("gas"),
+            cert: Some(cert),
+            entry: None,
+            state: None,
+            steps: None,
+        } if are_files(files) => Some(Command::Build(BuildWords { cert, files })),
+        _ => None,
+    }
+}
+
+fn list_words<'a>(options: Options<'a>, files: &'a [String]) -> Option<Command<'a>>
+    ensures { option_map command_of result ≡ read_form (options_of options.entry).syntax (options_of options.entry).cert (options_of options.entry).entry (options_of options.entry).state (options_of options.entry).steps (texts files.now) }
+{
+    match (options, files) {
+        (
+            Options {
+                syntax: Some("gas"),
+                cert: None,
+                entry: None,
+                state: None,
+                steps: None,
+            },
+            [file],
+        ) if is_value(file) => Some(Command::Read(file)),
+        _ => None,
+    }
+}
+
+fn eval_words<'a>(options: Options<'a>, files: &'a [String]) -> Option<Command<'a>>
+    ensures { option_map command_of result ≡ eval_form (options_of options.entry).syntax (options_of options.entry).cert (options_of options.entry).entry (options_of options.entry).state (options_of options.entry).steps (texts files.now) }
+{
+    match (options, files) {
+        (
+            Options {
+                syntax: Some("gas"),
+                cert: None,
+                entry: Some(entry),
+                state: Some(state),
+                steps: Some(steps),
+            },
+            [text],
+        ) if is_value(text) => Some(Command::Eval(EvalWords {
+            text,
+            entry,
+            state,
+            steps: steps_of(steps)?,
+        })),
+        _ => None,
+    }
+}
+
+/// What the words ask for: see docs/COMMANDS.md.
+pub(crate) fn read_words(words: &[String]) -> Option<Command<'_>>
+    ensures form { option_map command_of result ≡ form (texts words.now) }
+    ensures few { IfSome result FewFiles }
+{
+    let [command, rest @ ..] = words else {
+        return None;
+    };
+    let none = Options {
+        syntax: None,
+        cert: None,
+        entry: None,
+        state: None,
+        steps: None,
+    };
+    let (options, files) = read_options(none, rest)?;
+    match command.as_str() {
+        "build" => build_words(options, files),
+        "read" => list_words(options, files),
+        "eval" => eval_words(options, files),
+        _ => None,
+    }
 }
 
 fn are_files(files: &[String]) -> bool
@@ -60,5 +210,33 @@ fn is_value(word: &str) -> bool
     match word.as_bytes() {
         [] => false,
         [first, ..] => *first != b'-',
+    }
+}
+
+fn is_number(word: &[u8]) -> bool
+    ensures { result ≡ is_number word.now }
+{
+    if word.is_empty() || DIGIT_LIMIT < word.len() {
+        return false;
+    }
+    for byte in word {
+        if !is_digit(*byte) {
+            return false;
+        }
+    }
+    true
+}
+
+fn steps_of(word: &str) -> Option<u64>
+    ensures { result ≡ steps_of word.now }
+{
+    if !is_number(word.as_bytes()) {
+        return None;
+    }
+    let steps = word.parse::<u64>().ok()?;
+    if steps <= STEP_LIMIT {
+        Some(steps)
+    } else {
+        None
     }
 }

@@ -9,3 +9,4 @@ pub mod Following
 pub mod Lines
 pub mod TextLines
 pub mod Reading
+pub mod OneState

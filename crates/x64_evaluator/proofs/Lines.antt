@@ -27,10 +27,10 @@ bytes_ascii (b ∷ bs) = IsAscii-encode_with lower_digits (b ∷ bs) (ascii lowe
 behind_blank : (xs ys : List ℕ) → IsAscii xs → IsAscii ys → IsAscii (xs ++ 32 ∷ ys)
 behind_blank xs ys a b = IsAscii-append xs (32 ∷ ys) a (IsAscii-cons 32 ys (omega arith) b)
 
-value_fits : (p : Place) (n : ℕ) → fits (Value p n) ≡ true → n < limit p
+pub value_fits : (p : Place) (n : ℕ) → fits (Value p n) ≡ true → n < limit p
 value_fits p n h = ltb-true n (limit p) h
 
-range_fits : (b : Range) → fits (Block b) ≡ true → are_bytes b ≡ true
+pub range_fits : (b : Range) → fits (Block b) ≡ true → are_bytes b ≡ true
 range_fits b h = (and_parts (are_bytes b) _ h).0
 
 text_ascii : (s : Setting) → fits s ≡ true → IsAscii (setting_text s)

@@ -45,7 +45,7 @@ some_items (b ∷ bs) h =
     let one : length (encode_lower (b ∷ bs)) ≡ 1 = ap length h in
     absurd (omega (arith, two, one))
 
-same_ok : {xs ys : List ℕ} → ◌≡◌ {A = Result (List ℕ) FromHexError} (Ok xs) (Ok ys) → xs ≡ ys
+pub same_ok : {xs ys : List ℕ} → ◌≡◌ {A = Result (List ℕ) FromHexError} (Ok xs) (Ok ys) → xs ≡ ys
 same_ok {xs = xs} e = ap part e where
   part : Result (List ℕ) FromHexError → List ℕ
   part (Ok x) = x

@@ -2,6 +2,7 @@
 #![tactic(auto)]
 
 mod end;
+mod laws;
 mod places;
 mod report;
 mod run;
@@ -12,7 +13,8 @@ mod tests;
 mod trace;
 
 pub use end::{End, RunEnd};
+pub use laws::one_fault;
 pub use report::report_of;
-pub use run::{are_general, run_items};
+pub use run::{are_general, is_general_item, run_items};
 pub use state::{StateFault, read_state};
 pub use trace::Trace;

@@ -17,7 +17,8 @@ use crate::trace::Trace;
 use x64_meaning::{Fault, Machine, Obs, Seen, foresee, holds, is_general, open_flag, step_ins};
 use x64_syntax::{Cond, Ins, Item};
 
-fn is_general_item(item: &Item) -> bool
+/// Whether an item names no xmm register.
+pub fn is_general_item(item: &Item) -> bool
     ensures { result ≡ is_general_item item.now }
 {
     match item {

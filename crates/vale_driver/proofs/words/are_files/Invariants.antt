@@ -1,6 +1,6 @@
 use Rattle.std.proofs.Common.{◌≡◌, drop}
 use Rattle.std.specs.List.{list_all}
-use Rattle.vale_driver.specs.Outcome.{is_value}
+use Rattle.vale_driver.specs.Words.{is_value}
 use Rattle.vale_driver.specs.Phases.{texts}
 use Rattle.vale_driver.proofs.words.are_files.Given as goal
 

@@ -1,0 +1,11 @@
+// Laws over the definitions, which the layers above cite.
+
+ghost use Rattle.std.specs.Prelude.{◌≡◌, ℕ, List};
+ghost use Rattle.x64_meaning.specs.State.{State};
+ghost use Rattle.x64_evaluator.specs.StateFile.{IsStateOf, StopsAt};
+
+/// A state file has one first faulty line at most, and none where it is read.
+pub fn one_fault()
+    ensures stops { (lines : List (List ℕ)) (m n : ℕ) → StopsAt lines m → StopsAt lines n → m ≡ n }
+    ensures none { (lines : List (List ℕ)) (s : State) (n : ℕ) → IsStateOf lines s → StopsAt lines n → ⊥ }
+{}
