@@ -40,7 +40,8 @@ use Rattle.vale_driver.specs.Certificate.{Pair, Proves}
 use Rattle.vale_driver.specs.Ring.{ring_closes}
 use Rattle.vale_driver.specs.Terms.{is_built}
 use Rattle.vale_driver.specs.Build.{contract_of, is_changed, condition_hyps, condition_goal, steps_of, exports_of, lowered_code}
-use Rattle.vale_driver.specs.Outcome.{Build, BuildFiles, BuildHolds, Accepted, IsBuilt}
+use Rattle.vale_driver.specs.Words.{Build}
+use Rattle.vale_driver.specs.Outcome.{BuildFiles, BuildHolds, Accepted, IsBuilt}
 use Rattle.vale_driver.specs.Stops.{SourcesSpell, FileHolds}
 use Rattle.vale_driver.proofs.RingSound.{ring_sound}
 

@@ -14,3 +14,5 @@ pub mod Once
 pub mod Refused
 pub mod Quiet
 pub mod OneText
+pub mod Texts
+pub mod Options

@@ -21,7 +21,8 @@ use Rattle.vale_driver.specs.Certificate.{Pair, Proves, certificate_at}
 use Rattle.vale_driver.specs.Ring.{ring_closes}
 use Rattle.vale_driver.specs.Build.{condition_hyps, condition_goal}
 use Rattle.vale_driver.specs.Sources.{Source, refusal, cause_of, FirstOf, Phase, now, later, IsShort, TooLong, HasTokens, NoToken, IsRead, HasDecls, NotADecl, Declared, Spells, NoForm}
-use Rattle.vale_driver.specs.Outcome.{Build, BuildFiles, EachHolds, BuildHolds, BuildTold, sources_of, Behind, no_form, no_certificate, no_step, CertificateRefused, step_refusal, BuildRefusal, BuildRefused, Accepted, Streams}
+use Rattle.vale_driver.specs.Words.{Build}
+use Rattle.vale_driver.specs.Outcome.{BuildFiles, EachHolds, BuildHolds, BuildTold, sources_of, Behind, no_form, no_certificate, no_step, CertificateRefused, step_refusal, BuildRefusal, BuildRefused, Accepted, Streams}
 use Rattle.vale_driver.specs.Ends.{Outside, Asks, Ends, Quiet, Exactly, Unwritten, WroteText}
 use Rattle.vale_driver.proofs.Files.{tokens_of, are_read}
 use Rattle.vale_driver.proofs.CertificateLaws.{certificate_takes}

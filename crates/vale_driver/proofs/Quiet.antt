@@ -1,13 +1,16 @@
 -- The answer where no count rose is exactly the one that the files ask for.
 use Rattle.std.proofs.Common.{◌≡◌, ℕ, List, Option, Some, None, refl, sym, ap, ◌∙◌, subst, arith, inl, inr}
-use Rattle.std.specs.Prelude.{IfSome, IsSome, ◌⊎◌}
+use Rattle.std.specs.Prelude.{IfSome, IsSome, IfErr, Result, Ok, Err, ◌⊎◌}
 use Rattle.std.proofs.lemmas.Bool.{false≢true}
 use Rattle.vale_outside.specs.Outside.{Rose}
 use Rattle.vale_driver.specs.declared.status.Refusal.{Refusal}
 use Rattle.vale_driver.specs.declared.status.Status.{Status}
 use Rattle.vale_driver.specs.declared.status.Status.TheVariants.{Done, Refused, Usage, ReadFault, WriteFault, NoMemory}
-use Rattle.vale_driver.specs.Words.{Command, Builds, Lists, Evaluates}
-use Rattle.vale_driver.specs.Outcome.{Accepted, BuildRefusal, Streams}
+use Rattle.vale_driver.specs.Words.{Build, Command, Builds, Lists, Evaluates}
+use Rattle.vale_driver.specs.Outcome.{Accepted, BuildRefusal, BuildRefused, Streams}
+use Rattle.vale_driver.specs.declared.stop.Stop.{Stop}
+use Rattle.vale_driver.specs.declared.stop.Stop.TheVariants as stop
+use Rattle.vale_driver.specs.Stops.{StopsBy}
 use Rattle.vale_driver.specs.Listed.{TextRefused, TextRead, EvaluationRefused, IsEvaluated}
 use Rattle.vale_driver.specs.Commands.{Held, TextAndState, TellsAll, FirstRefusal, IsRefused, IsOutput}
 use Rattle.vale_driver.specs.Ends.{Outside, Asks, Ends, Quiet, Exactly, Unwritten, WroteText}
@@ -20,6 +23,13 @@ none_some e = absurd cc
 -- what a file holds that is told of
 told_is : (told : Option (List ℕ)) (x y : List ℕ) → told ≡ Some x → IfSome told (λ t. y ≡ t) → y ≡ x
 told_is told x y e h = subst (λ o. IfSome o (λ t. y ≡ t)) e h
+
+-- what stops a build stops the command
+pub build_stops : {X : Type 0} (tells : List ℕ → Option (List ℕ)) (b : Build) (F : Type 0) (r : Result X Stop) → IfErr r (StopsBy (BuildRefused tells b) F) → IfErr r (StopsBy (IsRefused tells (Builds b)) F)
+build_stops tells b F (Ok x) h = tt
+build_stops tells b F (Err (stop.Refused r)) h = record { held = h.held; holds = h.holds; first = h.first }
+build_stops tells b F (Err stop.ReadFault) h = h
+build_stops tells b F (Err stop.NoMemory) h = tt
 
 module _ (tells : List ℕ → Option (List ℕ)) where
   -- a refusal is one of what is told

@@ -1,5 +1,5 @@
 -- The words of the command line, and what they ask for.
-use Rattle.std.specs.Prelude.{ℕ, Bool, true, false, not, ◌&&◌, ◌==◌, nat_le, nat_lt, List, [], ◌∷◌, length, Option, Some, None, option_map, option_and_then, codes, if◌then◌else◌}
+use Rattle.std.specs.Prelude.{ℕ, Bool, true, false, not, ◌&&◌, ◌==◌, nat_le, nat_lt, List, [], ◌∷◌, length, Option, Some, None, is_none, option_map, option_and_then, codes, if◌then◌else◌}
 use Rattle.std.specs.List.{list_all, position_or_len, before_first, after_first}
 use Rattle.std.specs.Str.{bytes_eq}
 use Rattle.std.specs.Str.Parse.{digits_value}
@@ -105,27 +105,48 @@ read_options o (w ∷ (v ∷ ws)) =
     else option_and_then (λ p. read_options p ws) (with_option o w v))
     else Some (o, w ∷ (v ∷ ws))
 
+abbrev pub is_gas : Option (List ℕ) → Bool
+is_gas None = false
+is_gas (Some syntax) = bytes_eq syntax (codes "gas")
+
+abbrev pub one_file : List (List ℕ) → Option (List ℕ)
+one_file (file ∷ []) = given (is_value file) file
+one_file _ = None
+
 -- `build --syntax gas --cert CERT FILE..`
-abbrev pub build_form : Option (List ℕ) → Option (List ℕ) → Option (List ℕ) → Option (List ℕ) → Option (List ℕ) → List (List ℕ) → Option Command
-build_form (Some syntax) (Some cert) None None None files = given (bytes_eq syntax (codes "gas") && are_files files) (Builds record { cert = cert; files = files })
-build_form _ _ _ _ _ files = None
+abbrev pub is_build : Options → Bool
+is_build o = is_gas o.syntax && (is_none o.entry && (is_none o.state && is_none o.steps))
+
+abbrev pub build_files : Option (List ℕ) → List (List ℕ) → Option Command
+build_files None files = None
+build_files (Some cert) files = given (are_files files) (Builds record { cert = cert; files = files })
+
+abbrev pub build_form : Options → List (List ℕ) → Option Command
+build_form o files = if is_build o then build_files o.cert files else None
 
 -- `read --syntax gas FILE`
-abbrev pub read_form : Option (List ℕ) → Option (List ℕ) → Option (List ℕ) → Option (List ℕ) → Option (List ℕ) → List (List ℕ) → Option Command
-read_form (Some syntax) None None None None (file ∷ []) = given (bytes_eq syntax (codes "gas") && is_value file) (Lists file)
-read_form _ _ _ _ _ files = None
+abbrev pub is_read : Options → Bool
+is_read o = is_gas o.syntax && (is_none o.cert && (is_none o.entry && (is_none o.state && is_none o.steps)))
+
+abbrev pub read_form : Options → List (List ℕ) → Option Command
+read_form o files = if is_read o then option_map Lists (one_file files) else None
 
 -- `eval --syntax gas --entry NAME --state FILE --steps N FILE`
-abbrev pub eval_form : Option (List ℕ) → Option (List ℕ) → Option (List ℕ) → Option (List ℕ) → Option (List ℕ) → List (List ℕ) → Option Command
-eval_form (Some syntax) None (Some entry) (Some state) (Some steps) (file ∷ []) =
-    option_and_then (λ n. given (bytes_eq syntax (codes "gas") && is_value file) (Evaluates record { text = file; entry = entry; state = state; steps = n })) (steps_of steps)
-eval_form _ _ _ _ _ files = None
+abbrev pub is_eval : Options → Bool
+is_eval o = is_gas o.syntax && is_none o.cert
+
+abbrev pub eval_file : Option (List ℕ) → Option (List ℕ) → Option (List ℕ) → List ℕ → Option Command
+eval_file (Some entry) (Some state) (Some steps) file = option_map (λ n. Evaluates record { text = file; entry = entry; state = state; steps = n }) (steps_of steps)
+eval_file _ _ _ file = None
+
+abbrev pub eval_form : Options → List (List ℕ) → Option Command
+eval_form o files = if is_eval o then option_and_then (λ file. eval_file o.entry o.state o.steps file) (one_file files) else None
 
 abbrev pub command_form : List ℕ → Options → List (List ℕ) → Option Command
 command_form command o files =
-    if bytes_eq command (codes "build") then build_form o.syntax o.cert o.entry o.state o.steps files
-    else if bytes_eq command (codes "read") then read_form o.syntax o.cert o.entry o.state o.steps files
-    else if bytes_eq command (codes "eval") then eval_form o.syntax o.cert o.entry o.state o.steps files
+    if bytes_eq command (codes "build") then build_form o files
+    else if bytes_eq command (codes "read") then read_form o files
+    else if bytes_eq command (codes "eval") then eval_form o files
     else None
 
 -- The first word is the command. Options stand before the first other word, in any order, each once.

@@ -67,8 +67,8 @@ fn begin<S: Store>(
     words: EvalWords<'_>,
 ) -> Result<(Vec<Item>, usize), Stop>
     requires { IsTrue (S.may_ask store.old words.text.now) }
-    ensures begun { IfOk result (λ p. FileHolds (S.tells store.old words.text.now) (λ t. Begun (evaluation_of words.entry) t p.0.items (Some p.1))) }
-    ensures stops { IfErr result (StopsBy (λ r. FileHolds (S.tells store.old words.text.now) (λ t. BegunRefused (evaluation_of words.entry) t r)) (Rose (S.faults store.old) (S.faults store.new))) }
+    ensures begun { IfOk result (λ p. FileHolds (S.tells store.old words.entry.text.now) (λ t. Begun (evaluation_of words.entry) t p.0.items (Some p.1))) }
+    ensures stops { IfErr result (StopsBy (λ r. FileHolds (S.tells store.old words.entry.text.now) (λ t. BegunRefused (evaluation_of words.entry) t r)) (Rose (S.faults store.old) (S.faults store.new))) }
     ensures count { S.faults store.old ≤ S.faults store.new }
     ensures same_names { (n : List ℕ) → S.may_ask store.new n ≡ S.may_ask store.old n }
     ensures same_files { (n : List ℕ) → S.tells store.new n ≡ S.tells store.old n }

@@ -49,8 +49,8 @@ pub fn run<S: Store, O: Sink, E: Sink>(
 fn output<S: Store>(alloc: Global, command: Command<'_>, store: &mut S) -> Result<Vec<u8>, Stop>
     requires few { FewFiles command }
     requires askable { AllByRecursion (λ f. IsTrue (S.may_ask store.old f)) (files_of (command_of command)) }
-    ensures output { IfOk result (λ text. IsOutput (S.tells store.old) (command_of command) text.items) }
-    ensures stops { IfErr result (StopsBy (IsRefused (S.tells store.old) (command_of command)) (Rose (S.faults store.old) (S.faults store.new))) }
+    ensures output { IfOk result (λ text. IsOutput (S.tells store.old) (command_of command.entry) text.items) }
+    ensures stops { IfErr result (StopsBy (IsRefused (S.tells store.old) (command_of command.entry)) (Rose (S.faults store.old) (S.faults store.new))) }
     ensures count { S.faults store.old ≤ S.faults store.new }
 {
     match command {
@@ -70,7 +70,7 @@ fn run_command<S: Store, O: Sink, E: Sink>(
 ) -> Status
     requires few { FewFiles command }
     requires askable { AllByRecursion (λ f. IsTrue (S.may_ask store.old f)) (files_of (command_of command)) }
-    ensures { Ends (Some (command_of command)) record { tells = S.tells store.old; store_old = S.faults store.old; store_new = S.faults store.new; out_old = O.faults out.old; out_new = O.faults out.new; err_old = E.faults err.old; err_new = E.faults err.new } record { out_old = O.told out.old; out_new = O.told out.new; err_old = E.told err.old; err_new = E.told err.new } result }
+    ensures { Ends (Some (command_of command.entry)) record { tells = S.tells store.old; store_old = S.faults store.old; store_new = S.faults store.new; out_old = O.faults out.old; out_new = O.faults out.new; err_old = E.faults err.old; err_new = E.faults err.new } record { out_old = O.told out.old; out_new = O.told out.new; err_old = E.told err.old; err_new = E.told err.new } result }
 {
     match output(alloc, command, store) {
         Ok(text) => finish(out, &text),

@@ -1,8 +1,8 @@
 // The words of the command line.
 
-ghost use Rattle.std.specs.Prelude.{◌≡◌, ◌≤◌, length, IfSome, Some};
+ghost use Rattle.std.specs.Prelude.{◌≡◌, IfSome};
 ghost use Rattle.std.specs.Option.{option_map};
-ghost use Rattle.vale_driver.specs.Words.{once, with_option, is_option, no_options, read_options, build_form, read_form, eval_form, command_form, form, is_value, are_files, is_number, steps_of};
+ghost use Rattle.vale_driver.specs.Words.{once, with_option, is_option, no_options, read_options, is_gas, is_build, is_read, is_eval, one_file, build_form, read_form, eval_form, form, is_value, are_files, is_number, steps_of};
 ghost use Rattle.vale_driver.specs.Phases.{texts, options_of, words_left, command_of, FewFiles};
 
 use x64_syntax::is_digit;
@@ -52,7 +52,7 @@ struct Options<'a> {
 
 // A value that an option has not yet.
 fn once<'a>(old: Option<&'a str>, value: &'a str) -> Option<&'a str>
-    ensures { option_map (λ v. v.now) result ≡ once (option_map (λ v. v.now) old) value.now }
+    ensures { option_map (λ v. v.now) result ≡ once (option_map (λ v. v.now) old.entry) value.now }
 {
     if old.is_none() && is_value(value) {
         Some(value)
@@ -109,60 +109,89 @@ fn read_options<'a>(
     read_options(options.with(word, value)?, rest)
 }
 
-fn build_words<'a>(options: Options<'a>, files: &'a [String]) -> Option<Command<'a>>
-    ensures { option_map command_of result ≡ build_form (options_of options.entry).syntax (options_of options.entry).cert (options_of options.entry).entry (options_of options.entry).state (options_of options.entry).steps (texts files.now) }
+fn is_gas(syntax: Option<&str>) -> bool
+    ensures { result ≡ is_gas (option_map (λ v. v.now) syntax.entry) }
 {
-    match options {
-        Options {
-            syntax: Some("gas"),
-            cert: Some(cert),
-            entry: None,
-            state: None,
-            steps: None,
-        } if are_files(files) => Some(Command::Build(BuildWords { cert, files })),
+    match syntax {
+        Some(syntax) => syntax == "gas",
+        None => false,
+    }
+}
+
+impl Options<'_> {
+    fn is_build(self) -> bool
+        ensures { result ≡ is_build (options_of self.entry) }
+    {
+        if !is_gas(self.syntax) || self.entry.is_some() {
+            return false;
+        }
+        self.state.is_none() && self.steps.is_none()
+    }
+
+    fn is_read(self) -> bool
+        ensures { result ≡ is_read (options_of self.entry) }
+    {
+        self.cert.is_none() && self.is_build()
+    }
+
+    fn is_eval(self) -> bool
+        ensures { result ≡ is_eval (options_of self.entry) }
+    {
+        is_gas(self.syntax) && self.cert.is_none()
+    }
+}
+
+fn one_file(files: &[String]) -> Option<&str>
+    ensures { option_map (λ v. v.now) result ≡ one_file (texts files.now) }
+{
+    match files {
+        [file] if is_value(file) => Some(file),
         _ => None,
+    }
+}
+
+fn build_words<'a>(options: Options<'a>, files: &'a [String]) -> Option<Command<'a>>
+    ensures form { option_map command_of result ≡ build_form (options_of options.entry) (texts files.now) }
+    ensures few { IfSome result FewFiles }
+{
+    if !options.is_build() {
+        return None;
+    }
+    let cert = options.cert?;
+    if are_files(files) {
+        Some(Command::Build(BuildWords { cert, files }))
+    } else {
+        None
     }
 }
 
 fn list_words<'a>(options: Options<'a>, files: &'a [String]) -> Option<Command<'a>>
-    ensures { option_map command_of result ≡ read_form (options_of options.entry).syntax (options_of options.entry).cert (options_of options.entry).entry (options_of options.entry).state (options_of options.entry).steps (texts files.now) }
+    ensures form { option_map command_of result ≡ read_form (options_of options.entry) (texts files.now) }
+    ensures few { IfSome result FewFiles }
 {
-    match (options, files) {
-        (
-            Options {
-                syntax: Some("gas"),
-                cert: None,
-                entry: None,
-                state: None,
-                steps: None,
-            },
-            [file],
-        ) if is_value(file) => Some(Command::Read(file)),
-        _ => None,
+    if !options.is_read() {
+        return None;
     }
+    Some(Command::Read(one_file(files)?))
 }
 
 fn eval_words<'a>(options: Options<'a>, files: &'a [String]) -> Option<Command<'a>>
-    ensures { option_map command_of result ≡ eval_form (options_of options.entry).syntax (options_of options.entry).cert (options_of options.entry).entry (options_of options.entry).state (options_of options.entry).steps (texts files.now) }
+    ensures form { option_map command_of result ≡ eval_form (options_of options.entry) (texts files.now) }
+    ensures few { IfSome result FewFiles }
 {
-    match (options, files) {
-        (
-            Options {
-                syntax: Some("gas"),
-                cert: None,
-                entry: Some(entry),
-                state: Some(state),
-                steps: Some(steps),
-            },
-            [text],
-        ) if is_value(text) => Some(Command::Eval(EvalWords {
-            text,
-            entry,
-            state,
-            steps: steps_of(steps)?,
-        })),
-        _ => None,
+    if !options.is_eval() {
+        return None;
     }
+    let text = one_file(files)?;
+    let entry = options.entry?;
+    let state = options.state?;
+    let steps = steps_of(options.steps?)?;
+    Some(Command::Eval(EvalWords {
+        text,
+        entry,
+        state,
+        steps,
+    }))
 }
 
 /// What the words ask for: see docs/COMMANDS.md.
