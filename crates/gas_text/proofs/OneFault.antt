@@ -2,12 +2,11 @@
 use Rattle.std.proofs.Common.{◌≡◌, ℕ, ◌+◌, ◌≤◌, Bool, true, false, List, [], ◌∷◌, ◌++◌, take, refl, sym, ap, ◌∙◌, arith, Some, ◌⊎◌, inl, inr}
 use Rattle.std.specs.Prelude.{codes, ◌==◌, if◌then◌else◌}
 use Rattle.std.proofs.lemmas.List.{append_assoc}
-use Rattle.x64_syntax.specs.declared.items.Item.{Item}
-use Rattle.x64_syntax.specs.Programs.{is_ordered, stray_jump}
+use Rattle.x64_syntax.specs.Programs.{stray_jump}
 use Rattle.gas_text.specs.declared.fault.AsmFault.{AsmFault}
 use Rattle.gas_text.specs.declared.fault.AsmFault.TheVariants.{Line, Label, NoMemory}
 use Rattle.gas_text.specs.Gas.{gas_text}
-use Rattle.gas_text.specs.Text.{newlines, Begins, IsNoText, BadLine, bad, early, Strays, Refused}
+use Rattle.gas_text.specs.Text.{newlines, Begins, BadLine, bad, early, Strays, Refused}
 use Rattle.gas_text.proofs.Once.{once, no_bad_line}
 
 -- where two texts begin a third

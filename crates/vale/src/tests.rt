@@ -7,11 +7,13 @@ use vale_outside::{MemSink, MemStore};
 
 const INC2: &str = ".text\n.globl inc2\ninc2:\n\taddq $1, %rax\n\taddq $1, %rax\n\tret\n";
 
-const SOURCE: &str = "procedure inc2() reads rax; modifies rax, flags; ensures rax == old(rax) + 2w; { Add64(rax, 1); Add64(rax, 1); } export inc2 = inc2();\n";
+const SOURCE: &str =
+    "procedure inc2() reads rax; modifies rax, flags; ensures rax == old(rax) + 2w; { Add64(rax, 1); Add64(rax, 1); } export inc2 = inc2();\n";
 
 const CERTIFICATE: &str = "{\"condition\":\"inc2()#0\"}\n[\"ring\",[[0,1],[5,1]]]\n";
 
-const MASK: &str = ".text\n.globl mask\nmask:\n\tmovabsq $0, %rcx\n\tjmp L1\nL0:\n\tmovq 0(%rsi,%rcx,8), %rax\n\txorq 0(%rdi,%rcx,8), %rax\n\tmovq %rax, 0(%rdi,%rcx,8)\n\taddq $1, %rcx\nL1:\n\tcmpq %rdx, %rcx\n\tjne L0\n\tret\n";
+const MASK: &str =
+    ".text\n.globl mask\nmask:\n\tmovabsq $0, %rcx\n\tjmp L1\nL0:\n\tmovq 0(%rsi,%rcx,8), %rax\n\txorq 0(%rdi,%rcx,8), %rax\n\tmovq %rax, 0(%rdi,%rcx,8)\n\taddq $1, %rcx\nL1:\n\tcmpq %rdx, %rcx\n\tjne L0\n\tret\n";
 
 // How a run ended, and the texts that it wrote.
 #[derive(Drop)]
@@ -58,7 +60,7 @@ fn is_usage(alloc: Global, words: &str) -> Result<bool, Fail> {
     match ran.status {
         Status::Usage => {
             let usage = b"usage: vale COMMAND [OPTIONS] FILE..\n";
-            Ok(ran.out.bytes().is_empty() && ran.err.bytes() == usage)
+            Ok(ran.out.bytes().is_empty() && ran.err.bytes() == usage.as_slice())
         }
         _ => Ok(false),
     }
@@ -75,8 +77,14 @@ fn words_of_a_build(rt: HostRuntime) -> Result<(), Fail> {
         ("build --syntax gas --cert a=b a.vale", false),
         ("build --syntax gas --cert=a=b a.vale", false),
         ("build --syntax gas --cert a.cert a.vale a.vale", false),
-        ("build --syntax gas --cert a.cert 1 2 3 4 5 6 7 8 9 10 11 12 13 14 15 16", false),
-        ("build --syntax gas --cert a.cert 1 2 3 4 5 6 7 8 9 10 11 12 13 14 15 16 17", true),
+        (
+            "build --syntax gas --cert a.cert 1 2 3 4 5 6 7 8 9 10 11 12 13 14 15 16",
+            false,
+        ),
+        (
+            "build --syntax gas --cert a.cert 1 2 3 4 5 6 7 8 9 10 11 12 13 14 15 16 17",
+            true,
+        ),
         ("build --syntax gas --cert a.cert", true),
         ("build --syntax gas a.vale", true),
         ("build --cert a.cert a.vale", true),
@@ -85,7 +93,10 @@ fn words_of_a_build(rt: HostRuntime) -> Result<(), Fail> {
         ("build --syntax masm --cert a.cert a.vale", true),
         ("build --syntax GAS --cert a.cert a.vale", true),
         ("build --syntax gas --syntax gas --cert a.cert a.vale", true),
-        ("build --syntax gas --cert a.cert --cert=a.cert a.vale", true),
+        (
+            "build --syntax gas --cert a.cert --cert=a.cert a.vale",
+            true,
+        ),
         ("build --syntax gas a.vale --cert a.cert", true),
         ("build --syntax gas --cert a.cert a.vale --cert", true),
         ("build --syntax gas --cert a.cert -a.vale", true),
@@ -138,23 +149,62 @@ fn words_of_a_listing_and_of_a_run(rt: HostRuntime) -> Result<(), Fail> {
         ("read --syntax gas a.s a.s", true),
         ("read --syntax masm a.s", true),
         ("read --syntax gas --cert a.cert a.s", true),
-        ("eval --syntax gas --entry inc2 --state s --steps 9 a.s", false),
-        ("eval --steps=9 --state=s --entry=inc2 --syntax=gas a.s", false),
-        ("eval --syntax gas --entry inc2 --state s --steps 0 a.s", false),
-        ("eval --syntax gas --entry inc2 --state s --steps 10000000 a.s", false),
-        ("eval --syntax gas --entry inc2 --state s --steps 00000000000010000000 a.s", false),
-        ("eval --syntax gas --entry inc2 --state s --steps 000000000000010000000 a.s", true),
-        ("eval --syntax gas --entry inc2 --state s --steps 10000001 a.s", true),
-        ("eval --syntax gas --entry inc2 --state s --steps 99999999999999999999 a.s", true),
-        ("eval --syntax gas --entry inc2 --state s --steps +9 a.s", true),
-        ("eval --syntax gas --entry inc2 --state s --steps 9x a.s", true),
-        ("eval --syntax gas --entry inc2 --state s --steps= a.s", true),
+        (
+            "eval --syntax gas --entry inc2 --state s --steps 9 a.s",
+            false,
+        ),
+        (
+            "eval --steps=9 --state=s --entry=inc2 --syntax=gas a.s",
+            false,
+        ),
+        (
+            "eval --syntax gas --entry inc2 --state s --steps 0 a.s",
+            false,
+        ),
+        (
+            "eval --syntax gas --entry inc2 --state s --steps 10000000 a.s",
+            false,
+        ),
+        (
+            "eval --syntax gas --entry inc2 --state s --steps 00000000000010000000 a.s",
+            false,
+        ),
+        (
+            "eval --syntax gas --entry inc2 --state s --steps 000000000000010000000 a.s",
+            true,
+        ),
+        (
+            "eval --syntax gas --entry inc2 --state s --steps 10000001 a.s",
+            true,
+        ),
+        (
+            "eval --syntax gas --entry inc2 --state s --steps 99999999999999999999 a.s",
+            true,
+        ),
+        (
+            "eval --syntax gas --entry inc2 --state s --steps +9 a.s",
+            true,
+        ),
+        (
+            "eval --syntax gas --entry inc2 --state s --steps 9x a.s",
+            true,
+        ),
+        (
+            "eval --syntax gas --entry inc2 --state s --steps= a.s",
+            true,
+        ),
         ("eval --syntax gas --entry inc2 --state s a.s", true),
         ("eval --syntax gas --state s --steps 9 a.s", true),
         ("eval --syntax gas --entry inc2 --steps 9 a.s", true),
         ("eval --entry inc2 --state s --steps 9 a.s", true),
-        ("eval --syntax gas --entry inc2 --state s --steps 9 a.s b.s", true),
-        ("eval --syntax gas --entry inc2 --entry inc2 --state s --steps 9 a.s", true),
+        (
+            "eval --syntax gas --entry inc2 --state s --steps 9 a.s b.s",
+            true,
+        ),
+        (
+            "eval --syntax gas --entry inc2 --entry inc2 --state s --steps 9 a.s",
+            true,
+        ),
     ] {
         assert_eq!(rt; is_usage(rt.alloc(), words)?, usage, "at {words}");
     }
@@ -294,7 +344,8 @@ fn runs_are_reported_exactly(rt: HostRuntime) -> Result<(), Fail> {
 
 #[test]
 fn texts_are_listed_line_by_line(rt: HostRuntime) -> Result<(), Fail> {
-    let mask = "Entry mask\nMov64(rcx, 0)\nJmp 1\nLabel 0\nMov64(rax, (rsi, rcx, 8, 0))\nXor64(rax, (rdi, rcx, 8, 0))\nStore64((rdi, rcx, 8, 0), rax)\nAdd64(rcx, 1)\nLabel 1\nCmp64(rcx, rdx)\nJcc ne 0\nRet\n";
+    let mask =
+        "Entry mask\nMov64(rcx, 0)\nJmp 1\nLabel 0\nMov64(rax, (rsi, rcx, 8, 0))\nXor64(rax, (rdi, rcx, 8, 0))\nStore64((rdi, rcx, 8, 0), rax)\nAdd64(rcx, 1)\nLabel 1\nCmp64(rcx, rdx)\nJcc ne 0\nRet\n";
     for (text, listing) in [
         (INC2, "Entry inc2\nAdd64(rax, 1)\nAdd64(rax, 1)\nRet\n"),
         (MASK, mask),
@@ -319,11 +370,31 @@ const WIDE: &str = ".text\n.globl f\nf:\n\tret\n\tmovdqu %xmm1, %xmm0\n";
 // Words, a text, a state and the line of the refusal.
 const REFUSALS: [(&str, &str, &str, &str); 14] = [
     ("read --syntax gas a.s", "", "", "E12 a.s 1 - Line\n"),
-    ("read --syntax gas a.s", ".text\n\tret\n", "", "E12 a.s 2 - Line\n"),
-    ("read --syntax gas a.s", ".text\n.globl f\nf:\n\tret", "", "E12 a.s 4 - Line\n"),
-    ("read --syntax gas a.s", ".text\n.globl f\nf:\n\tjmp L0\n", "", "E12 a.s 4 - Label\n"),
+    (
+        "read --syntax gas a.s",
+        ".text\n\tret\n",
+        "",
+        "E12 a.s 2 - Line\n",
+    ),
+    (
+        "read --syntax gas a.s",
+        ".text\n.globl f\nf:\n\tret",
+        "",
+        "E12 a.s 4 - Line\n",
+    ),
+    (
+        "read --syntax gas a.s",
+        ".text\n.globl f\nf:\n\tjmp L0\n",
+        "",
+        "E12 a.s 4 - Label\n",
+    ),
     (EVAL, ".text\n.globl f\ng:\n", "", "E12 a.s 3 - Line\n"),
-    (EVAL, ".text\n.globl f\nf:\n\tje L7\n", "x", "E12 a.s 4 - Label\n"),
+    (
+        EVAL,
+        ".text\n.globl f\nf:\n\tje L7\n",
+        "x",
+        "E12 a.s 4 - Label\n",
+    ),
     (EVAL, WIDE, "", "E12 a.s 5 - NotBuilt\n"),
     (
         EVAL,
@@ -331,11 +402,31 @@ const REFUSALS: [(&str, &str, &str, &str); 14] = [
         "",
         "E12 a.s 5 - Label\n",
     ),
-    (EVAL, ".text\n.globl g\ng:\n\tmovq %rax, %xmm0\n", "x", "E12 a.s 4 - NotBuilt\n"),
+    (
+        EVAL,
+        ".text\n.globl g\ng:\n\tmovq %rax, %xmm0\n",
+        "x",
+        "E12 a.s 4 - NotBuilt\n",
+    ),
     (EVAL, ".text\n", "", "E14 a.s - f NoEntry\n"),
-    (EVAL, ".text\n.globl F\nF:\n\tret\n", "x", "E14 a.s - f NoEntry\n"),
-    (EVAL, ".text\n.globl f\nf:\n\tret\n", "x", "E13 s 1 - State\n"),
-    (EVAL, ".text\n.globl f\nf:\n\tret\n", "rax 1\nrax 2\n", "E13 s 2 - State\n"),
+    (
+        EVAL,
+        ".text\n.globl F\nF:\n\tret\n",
+        "x",
+        "E14 a.s - f NoEntry\n",
+    ),
+    (
+        EVAL,
+        ".text\n.globl f\nf:\n\tret\n",
+        "x",
+        "E13 s 1 - State\n",
+    ),
+    (
+        EVAL,
+        ".text\n.globl f\nf:\n\tret\n",
+        "rax 1\nrax 2\n",
+        "E13 s 2 - State\n",
+    ),
     (
         EVAL,
         ".text\n.globl f\nf:\n\tret\n",

@@ -1,11 +1,10 @@
 -- A line of a state file sets one thing, so a state file has one first fault at most, and none where it is read.
-use Rattle.std.proofs.Common.{◌≡◌, ℕ, ◌+◌, ◌^◌, ◌<◌, Bool, true, List, [], ◌∷◌, ◌++◌, length, map, Option, Some, None, option_map, refl, sym, ap, ◌∙◌, arith, decimal, append_assoc, codes}
-use Rattle.std.specs.Prelude.{◌&&◌, nat_le, nat_lt}
+use Rattle.std.proofs.Common.{◌≡◌, ℕ, ◌+◌, ◌^◌, ◌<◌, true, List, [], ◌∷◌, ◌++◌, length, map, Option, Some, None, option_map, refl, sym, ap, ◌∙◌, arith, decimal, append_assoc, codes}
 use Rattle.std.specs.Str.Parse.{digits_value}
-use Rattle.std.proofs.lemmas.Bool.{and_parts, ltb-true}
+use Rattle.std.proofs.lemmas.Bool.{and_parts}
 use Rattle.std.proofs.lemmas.Fmt.{decimal_is_IsNumeral_wide}
 use Rattle.std.proofs.lemmas.List.{append-nil}
-use Rattle.hex.specs.Hex.{encode_lower, decode_of, IsBytes}
+use Rattle.hex.specs.Hex.{decode_of, IsBytes}
 use Rattle.hex.proofs.HexLemmas.{decode_of-encode_lower}
 use Rattle.x64_syntax.specs.declared.places.Reg.{Reg as GeneralReg}
 use Rattle.x64_syntax.specs.declared.places.Reg.TheVariants.{Rax, Rbx, Rcx, Rdx, Rsi, Rdi, Rbp, Rsp, R8, R9, R10, R11, R12, R13, R14, R15}
@@ -19,11 +18,11 @@ use Rattle.x64_syntax.specs.Places.{place_name, reg_name, xmm_name, flag_name, r
 use Rattle.x64_blocks.specs.Memory.{Range}
 use Rattle.x64_meaning.specs.State.{State}
 use Rattle.code_lower.proofs.First.{some_is}
-use Rattle.x64_evaluator.specs.StateFile.{Setting, Value, Block, setting_text, value_text, range_text, bytes_text, are_bytes, fits, may_follow, allowed, IsStateOf, StopsAt}
+use Rattle.x64_evaluator.specs.StateFile.{Setting, Value, Block, setting_text, range_text, bytes_text, are_bytes, fits, may_follow, allowed, IsStateOf, StopsAt}
 use Rattle.x64_evaluator.proofs.PlaceNames.{no_block}
 use Rattle.x64_evaluator.proofs.Texts.{cut_same, few_digits}
 use Rattle.x64_evaluator.proofs.Taken.{small, some_items, same_ok, range_base, range_bytes, base_blankless}
-use Rattle.x64_evaluator.proofs.Lines.{word_in, rest_in, word_blankless, has_blank, value_fits, range_fits}
+use Rattle.x64_evaluator.proofs.Lines.{word_blankless, value_fits, range_fits}
 
 abbrev or_else : Option Place → Option Place → Option Place
 or_else (Some p) o = Some p
