@@ -1,9 +1,8 @@
 -- There is one first refusal at most, and none where all is accepted.
 use Rattle.std.proofs.Common.{◌≡◌, ℕ, List, [], ◌∷◌, ◌++◌, map, Option, Some, None, refl, sym, ap, ◌∙◌, subst, arith, inl, inr}
-use Rattle.std.specs.Prelude.{IfSome, IsSome, ◌⊎◌, codes, drop}
+use Rattle.std.specs.Prelude.{IfSome, codes, drop}
 use Rattle.std.specs.List.{AllByRecursion}
 use Rattle.std.proofs.lemmas.Bool.{false≢true}
-use Rattle.vale_outside.specs.Outside.{Rose}
 use Rattle.vale_syntax.specs.declared.token.Token.{Token}
 use Rattle.vale_syntax.specs.declared.token.NotAToken.{NotAToken}
 use Rattle.vale_syntax.specs.declared.spot.Spot.{Spot}
@@ -15,15 +14,12 @@ use Rattle.vale_parser.proofs.Whole as decls
 use Rattle.straight_line.specs.declared.form.StraightLine.{StraightLine}
 use Rattle.straight_line.specs.Form.{straight_line}
 use Rattle.vale_driver.specs.declared.status.Refusal.{Refusal}
-use Rattle.vale_driver.specs.declared.status.Status.{Status}
-use Rattle.vale_driver.specs.declared.status.Status.TheVariants.{Done, Refused, Usage, ReadFault, WriteFault, NoMemory}
 use Rattle.vale_driver.specs.Certificate.{Pair, Proves, certificate_at}
 use Rattle.vale_driver.specs.Ring.{ring_closes}
 use Rattle.vale_driver.specs.Build.{condition_hyps, condition_goal}
 use Rattle.vale_driver.specs.Sources.{Source, refusal, cause_of, FirstOf, Phase, now, later, IsShort, TooLong, HasTokens, NoToken, IsRead, HasDecls, NotADecl, Declared, Spells, NoForm}
 use Rattle.vale_driver.specs.Words.{Build}
-use Rattle.vale_driver.specs.Outcome.{BuildFiles, EachHolds, BuildHolds, BuildTold, sources_of, Behind, no_form, no_certificate, no_step, CertificateRefused, step_refusal, BuildRefusal, BuildRefused, Accepted, Streams}
-use Rattle.vale_driver.specs.Ends.{Outside, Asks, Ends, Quiet, Exactly, Unwritten, WroteText}
+use Rattle.vale_driver.specs.Outcome.{BuildFiles, EachHolds, BuildHolds, BuildTold, sources_of, Behind, no_form, no_certificate, no_step, CertificateRefused, step_refusal, BuildRefusal, Accepted}
 use Rattle.vale_driver.proofs.Files.{tokens_of, are_read}
 use Rattle.vale_driver.proofs.CertificateLaws.{certificate_takes}
 

@@ -1,19 +1,19 @@
 -- A text or a state has one refusal at most, and none where it is read.
-use Rattle.std.proofs.Common.{◌≡◌, ℕ, ◌<◌, ◌≤◌, List, length, Option, Some, None, refl, sym, ap, ◌∙◌, subst, arith, inl, inr, ◌⊎◌, take, ◌+◌, codes}
+use Rattle.std.proofs.Common.{◌≡◌, ℕ, List, Option, Some, None, sym, ap, ◌∙◌, subst, arith, inl, inr, ◌⊎◌, take, ◌+◌, codes}
 use Rattle.std.specs.Prelude.{position, Result, Ok, Err}
 use Rattle.x64_syntax.specs.declared.items.Item.{Item}
 use Rattle.gas_text.specs.declared.fault.AsmFault.{AsmFault}
 use Rattle.gas_text.specs.declared.fault.AsmFault.TheVariants as asm
 use Rattle.gas_text.specs.Gas.{gas_text}
-use Rattle.gas_text.specs.Text.{newlines, BadLine, Strays, ReadsAs, Reads, Refused}
+use Rattle.gas_text.specs.Text.{newlines, BadLine, Strays, ReadsAs, Refused}
 use Rattle.gas_text.proofs.Once.{one_list, only_read}
 use Rattle.gas_text.proofs.OneFault.{one_fault}
-use Rattle.x64_evaluator.specs.StateFile.{lines_of, IsStateOf, StopsAt}
+use Rattle.x64_evaluator.specs.StateFile.{lines_of}
 use Rattle.x64_evaluator.proofs.OneState.{one_stop, no_stop}
 use Rattle.vale_driver.specs.declared.status.Refusal.{Refusal}
 use Rattle.vale_driver.specs.Sources.{refusal}
 use Rattle.vale_driver.specs.Words.{Evaluation}
-use Rattle.vale_driver.specs.Listed.{text_limit, state_limit, too_long, TextRefused, long_text, line_text, label_text, TextRead, is_wide, is_named, WideRefused, Begun, no_entry, StateRead, StateRefused, long_state, line_state, BegunRefused, by_text, wide, nowhere, EvaluationRefused, before, behind, IsEvaluated}
+use Rattle.vale_driver.specs.Listed.{TextRefused, long_text, line_text, label_text, TextRead, is_wide, is_named, WideRefused, Begun, StateRefused, long_state, line_state, BegunRefused, by_text, wide, nowhere, EvaluationRefused, before, behind, IsEvaluated}
 
 -- two faults of a text are one
 line_same : (text : List ℕ) (m n : ℕ) → BadLine text m → BadLine text n → m ≡ n

@@ -1,14 +1,12 @@
 -- Options one after the other.
-use Rattle.std.proofs.Common.{◌≡◌, ℕ, ◌-◌, ◌<◌, ◌≤◌, Bool, true, false, List, [], ◌∷◌, length, get_or, take, drop, map, Option, Some, None, refl, sym, ap, ◌∙◌, arith, eqb, inl, inr, cond}
-use Rattle.std.specs.Prelude.{nat_lt, IfErr, Result, Ok, Err, String, string_bytes, option_map, option_and_then, if◌then◌else◌}
+use Rattle.std.proofs.Common.{◌≡◌, ℕ, ◌-◌, ◌≤◌, Bool, true, false, List, [], ◌∷◌, length, get_or, take, drop, Some, None, sym, ap, ◌∙◌, arith}
+use Rattle.std.specs.Prelude.{String, string_bytes, option_map, option_and_then, if◌then◌else◌}
 use Rattle.std.specs.Borrow.{Bor}
 use Rattle.std.specs.declared.alloc.Global.{Global}
-use Rattle.std.specs.List.{position_or_len, before_first, after_first}
-use Rattle.std.specs.Option.{MatchOption}
 use Rattle.std.proofs.lemmas.Bool.{lt-ltb, le-ltb}
 use Rattle.std.proofs.lemmas.List.{take_all}
 use Rattle.std.proofs.lemmas.Str.Pattern.{IsSplitOnceResult, split_once_first}
-use Rattle.vale_driver.specs.Words.{Options, with_option, is_option, is_equals, has_equals, name_of, value_of, read_options, eval_form, is_eval, one_file, eval_file, steps_of, Command}
+use Rattle.vale_driver.specs.Words.{Options, with_option, is_option, has_equals, name_of, value_of, read_options, eval_form, is_eval, one_file, eval_file, steps_of}
 use Rattle.vale_driver.specs.Phases.{texts}
 
 -- a list by its first item and the rest

@@ -1,5 +1,5 @@
 -- The answer where no count rose is exactly the one that the files ask for.
-use Rattle.std.proofs.Common.{◌≡◌, ℕ, List, Option, Some, None, refl, sym, ap, ◌∙◌, subst, arith, inl, inr}
+use Rattle.std.proofs.Common.{◌≡◌, ℕ, List, Option, Some, None, refl, sym, ap, ◌∙◌, subst, inl, inr}
 use Rattle.std.specs.Prelude.{IfSome, IsSome, IfErr, Result, Ok, Err, ◌⊎◌}
 use Rattle.std.proofs.lemmas.Bool.{false≢true}
 use Rattle.vale_outside.specs.Outside.{Rose}
@@ -12,7 +12,7 @@ use Rattle.vale_driver.specs.declared.stop.Stop.{Stop}
 use Rattle.vale_driver.specs.declared.stop.Stop.TheVariants as stop
 use Rattle.vale_driver.specs.Stops.{StopsBy}
 use Rattle.vale_driver.specs.Listed.{TextRefused, TextRead, EvaluationRefused, IsEvaluated}
-use Rattle.vale_driver.specs.Commands.{Held, TextAndState, TellsAll, FirstRefusal, IsRefused, IsOutput}
+use Rattle.vale_driver.specs.Commands.{Held, TellsAll, FirstRefusal, IsRefused, IsOutput}
 use Rattle.vale_driver.specs.Ends.{Outside, Asks, Ends, Quiet, Exactly, Unwritten, WroteText}
 use Rattle.vale_driver.proofs.Once.{held_same, refused_once, accepted_none}
 use Rattle.vale_driver.proofs.OneText.{text_once, text_none, evaluation_once, evaluation_none}

@@ -1,6 +1,6 @@
 -- Assembler texts and state files as they are fetched.
-use Rattle.std.proofs.Common.{◌≡◌, ℕ, suc, ◌≤◌, ◌<◌, Bool, true, false, not, ◌⊎◌, inl, inr, refl, List, [], ◌∷◌, length, Option, Some, None, sym, ap, ◌∙◌, subst, arith, codes}
-use Rattle.std.specs.Prelude.{IfSome, Vec, Ok, Result, position, slice_get}
+use Rattle.std.proofs.Common.{◌≡◌, ℕ, suc, ◌≤◌, true, false, ◌⊎◌, inl, inr, refl, List, [], ◌∷◌, length, Option, Some, None, sym, ap, ◌∙◌, subst}
+use Rattle.std.specs.Prelude.{IfSome, Vec, Ok, position, slice_get}
 use Rattle.std.proofs.lemmas.Bool.{and_from, not-false, false≢true}
 use Rattle.x64_syntax.specs.declared.items.Item.TheVariants as item
 use Rattle.code_lower.proofs.First.{Passes, Fails, first, position_is, position_none}
@@ -8,13 +8,10 @@ use Rattle.x64_evaluator.specs.Evaluated.{evaluated, way, are_general, is_genera
 use Rattle.x64_evaluator.specs.Report.{report_text}
 use Rattle.std.specs.declared.alloc.Global.{Global}
 use Rattle.x64_syntax.specs.declared.items.Item.{Item}
-use Rattle.gas_text.specs.Text.{BadLine, Strays, ReadsAs}
 use Rattle.x64_meaning.specs.State.{State}
-use Rattle.x64_evaluator.specs.StateFile.{lines_of, StopsAt, IsStateOf}
 use Rattle.vale_driver.specs.declared.status.Refusal.{Refusal}
-use Rattle.vale_driver.specs.Sources.{refusal}
 use Rattle.vale_driver.specs.Words.{Evaluation, Lists, Evaluates}
-use Rattle.vale_driver.specs.Listed.{text_limit, state_limit, trace_room, is_wide, is_named, too_long, TextRefused, long_text, line_text, label_text, TextRead, Begun, StateRead, StateRefused, long_state, line_state, BegunRefused, by_text, wide, nowhere, no_entry, EvaluationRefused, before, behind, IsListed, IsEvaluated, listing_text}
+use Rattle.vale_driver.specs.Listed.{text_limit, state_limit, trace_room, is_wide, is_named, too_long, TextRefused, long_text, TextRead, Begun, StateRead, StateRefused, long_state, BegunRefused, before, behind, listing_text}
 use Rattle.vale_driver.specs.Stops.{Fetched, FileHolds}
 use Rattle.vale_driver.specs.Commands.{IsRefused, WritesListing, WritesReport}
 use Rattle.vale_driver.proofs.Files.{told_or_nothing, is_told, long_bytes, fetched_none}

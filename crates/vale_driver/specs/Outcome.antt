@@ -1,7 +1,6 @@
 -- What the program answers: the words that it takes, its refusals, and what a finished build means.
-use Rattle.std.specs.Prelude.{◌≡◌, ℕ, Bool, true, false, not, ◌&&◌, ◌==◌, List, [], ◌∷◌, ◌++◌, Option, Some, None, IfSome, nat_le, length, map, slice_get, decimal, codes}
-use Rattle.std.specs.List.{list_all, AllByRecursion}
-use Rattle.std.specs.Str.{bytes_eq}
+use Rattle.std.specs.Prelude.{◌≡◌, ℕ, true, false, List, [], ◌∷◌, ◌++◌, Option, Some, None, IfSome, map, slice_get, decimal, codes}
+use Rattle.std.specs.List.{AllByRecursion}
 use Rattle.x64_syntax.specs.declared.items.Item.{Item}
 use Rattle.x64_meaning.specs.Contract.{Meets, SameRuns}
 use Rattle.vale_outside.specs.Outside.{Appends, AppendsFront}

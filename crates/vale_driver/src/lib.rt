@@ -1,4 +1,5 @@
-//! The program: it reads sources and a certificate, checks that the one proves the other, and writes assembler text.
+//! The program: it reads sources and a certificate, checks that the one proves the other, and writes assembler text;
+//! and it lists and runs assembler texts.
 #![tactic(auto)]
 
 mod build;

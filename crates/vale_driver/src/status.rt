@@ -41,10 +41,10 @@ impl Status {
 /// Why an input was refused. A part that is absent is written as `-`.
 #[derive(Debug, Drop, PartialEq, Eq)]
 pub struct Refusal {
-    /// The kind of the refusal: 2 source, 9 certificate line, 11 derivation.
+    /// The kind of the refusal: see docs/COMMANDS.md.
     pub number: u8,
     pub file: Option<Text>,
-    /// An offset in bytes in a source, a line from 1 in a certificate.
+    /// An offset in bytes in a source; a line from 1 in a certificate, an assembler text or a state file.
     pub at: Option<u64>,
     pub who: Option<Text>,
     pub cause: Text,

@@ -1,4 +1,4 @@
-// Why a build ends without a text, and what fetches files for it.
+// Why a command ends without output, and what fetches files for it.
 
 ghost use Rattle.std.specs.Prelude.{◌≡◌, ℕ, List, ◌≤◌, IsTrue, IfOk, Some};
 ghost use Rattle.vale_driver.specs.Sources.{refusal};
@@ -9,7 +9,7 @@ use std::alloc::{AllocError, AllocFailed, Global};
 use vale_outside::{FetchFault, Store};
 use x64_syntax::Text;
 
-/// Why a build ends without a text.
+/// Why a command ends without output.
 #[derive(Debug, Drop)]
 pub(crate) enum Stop {
     Refused(Refusal),

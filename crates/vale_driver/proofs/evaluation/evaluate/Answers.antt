@@ -1,4 +1,4 @@
-use Rattle.std.proofs.Common.{sym, ap, ◌∙◌, arith}
+use Rattle.std.proofs.Common.{ap, ◌∙◌, arith}
 use Rattle.std.proofs.lemmas.Result.{err_from_is_err_and}
 use Rattle.x64_evaluator.specs.Evaluated.{are_general, is_entry_at, evaluated, way}
 use Rattle.x64_evaluator.specs.Report.{report_text}

@@ -1,5 +1,5 @@
-use Rattle.std.proofs.Common.{◌≡◌, sym, ap, ◌∙◌, option_map}
-use Rattle.vale_driver.specs.Phases.{options_of, texts, command_of}
+use Rattle.std.proofs.Common.{sym, ap, option_map}
+use Rattle.vale_driver.specs.Phases.{options_of, texts}
 use Rattle.vale_driver.proofs.Options.{no_steps}
 use Rattle.vale_driver.proofs.words.eval_words.Goals as goal
 
