@@ -1,5 +1,5 @@
 -- A text has one fault at most.
-use Rattle.std.proofs.Common.{◌≡◌, ℕ, ◌+◌, ◌≤◌, Bool, true, false, List, [], ◌∷◌, ◌++◌, take, refl, sym, ap, ◌∙◌, arith, Some, ◌⊎◌, inl, inr}
+use Rattle.std.proofs.Common.{◌≡◌, ℕ, ◌+◌, ◌≤◌, Bool, true, false, List, [], ◌∷◌, ◌++◌, take, drop, get_or, refl, sym, ap, ◌∙◌, arith, Some, ◌⊎◌, inl, inr}
 use Rattle.std.specs.Prelude.{codes, ◌==◌, if◌then◌else◌}
 use Rattle.std.proofs.lemmas.List.{append_assoc}
 use Rattle.x64_syntax.specs.Programs.{stray_jump}
@@ -15,16 +15,10 @@ data Fronts (p q : List ℕ) : Type 0 where
   beyond : (b : ℕ) (y : List ℕ) → p ≡ q ++ b ∷ y → Fronts p q
 
 head_is : {x y : ℕ} {xs ys : List ℕ} → x ∷ xs ≡ y ∷ ys → x ≡ y
-head_is {x = x} e = ap head e where
-  head : List ℕ → ℕ
-  head [] = x
-  head (z ∷ zs) = z
+head_is {x = x} e = ap (λ l. get_or l 0 x) e
 
 tail_is : {x y : ℕ} {xs ys : List ℕ} → x ∷ xs ≡ y ∷ ys → xs ≡ ys
-tail_is {xs = xs} e = ap tail e where
-  tail : List ℕ → List ℕ
-  tail [] = xs
-  tail (z ∷ zs) = zs
+tail_is e = ap (drop 1) e
 
 fronts : (p r q s : List ℕ) → p ++ r ≡ q ++ s → Fronts p q
 fronts [] r q s e = within q refl

@@ -20,7 +20,7 @@ use Rattle.x64_meaning.specs.State.{State}
 use Rattle.code_lower.proofs.First.{some_is}
 use Rattle.x64_evaluator.specs.StateFile.{Setting, Value, Block, setting_text, range_text, bytes_text, are_bytes, fits, may_follow, allowed, IsStateOf, StopsAt}
 use Rattle.x64_evaluator.proofs.PlaceNames.{no_block}
-use Rattle.x64_evaluator.proofs.Texts.{cut_same, few_digits}
+use Rattle.x64_evaluator.proofs.Texts.{cut_same, few_digits, head_is, tail_is}
 use Rattle.x64_evaluator.proofs.Taken.{small, some_items, same_ok, range_base, range_bytes, base_blankless}
 use Rattle.x64_evaluator.proofs.Lines.{word_blankless, value_fits, range_fits}
 
@@ -113,18 +113,6 @@ same_setting (Block b) (Value q m) h k e =
 same_setting (Block b) (Block c) h k e =
     let parts = cut_same (codes "block") (range_text b) (codes "block") (range_text c) (word_blankless (Block b)) (word_blankless (Block c)) e in
     ap Block (same_range b c (range_fits b h) (range_fits c k) parts.1)
-
-head_is : {x y : List ℕ} {xs ys : List (List ℕ)} → x ∷ xs ≡ y ∷ ys → x ≡ y
-head_is {x = x} e = ap head e where
-  head : List (List ℕ) → List ℕ
-  head [] = x
-  head (z ∷ zs) = z
-
-tail_is : {x y : List ℕ} {xs ys : List (List ℕ)} → x ∷ xs ≡ y ∷ ys → xs ≡ ys
-tail_is {xs = xs} e = ap tail e where
-  tail : List (List ℕ) → List (List ℕ)
-  tail [] = xs
-  tail (z ∷ zs) = zs
 
 follows : (before : List Setting) (s : Setting) (ss : List Setting) → allowed before (s ∷ ss) ≡ true → may_follow before s ≡ true
 follows before s ss h = (and_parts (may_follow before s) _ h).0

@@ -1,5 +1,5 @@
 -- Words without blanks, and texts that are cut at the first blank.
-use Rattle.std.proofs.Common.{◌≡◌, ℕ, zero, suc, ◌+◌, ◌%◌, ◌^◌, ◌<◌, true, List, [], ◌∷◌, ◌++◌, decimal, refl, sym, ap, ◌∙◌, arith}
+use Rattle.std.proofs.Common.{◌≡◌, ℕ, zero, suc, ◌+◌, ◌%◌, ◌^◌, ◌<◌, true, List, [], ◌∷◌, ◌++◌, get_or, drop, decimal, refl, sym, ap, ◌∙◌, arith}
 use Rattle.std.specs.Prelude.{nat_lt}
 use Rattle.std.specs.Str.{IsAscii}
 use Rattle.std.proofs.lemmas.Bool.{and_parts, and_from, ltb-true, lt-ltb}
@@ -33,17 +33,11 @@ decimal_graphic n lt =
     (λ n ds ge h. list_all-append is_graphic ds ((48 + n % 10) ∷ []) ∙ and_from _ _ h (and_from _ _ (digit_graphic (n % 10) (mod_below n 10 (omega arith))) refl))
     n lt
 
-head_is : {x y : ℕ} {xs ys : List ℕ} → x ∷ xs ≡ y ∷ ys → x ≡ y
-head_is {x = x} e = ap head e where
-  head : List ℕ → ℕ
-  head [] = x
-  head (z ∷ zs) = z
+pub head_is : {X : Type 0} {x y : X} {xs ys : List X} → x ∷ xs ≡ y ∷ ys → x ≡ y
+head_is {x = x} e = ap (λ l. get_or l 0 x) e
 
-tail_is : {x y : ℕ} {xs ys : List ℕ} → x ∷ xs ≡ y ∷ ys → xs ≡ ys
-tail_is {xs = xs} e = ap tail e where
-  tail : List ℕ → List ℕ
-  tail [] = xs
-  tail (z ∷ zs) = zs
+pub tail_is : {X : Type 0} {x y : X} {xs ys : List X} → x ∷ xs ≡ y ∷ ys → xs ≡ ys
+tail_is e = ap (drop 1) e
 
 -- two words without blanks before a blank are one
 pub cut_same : (xs ys vs ws : List ℕ) → Blankless xs → Blankless vs → xs ++ 32 ∷ ys ≡ vs ++ 32 ∷ ws → (xs ≡ vs) × (ys ≡ ws)

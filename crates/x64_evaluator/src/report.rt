@@ -7,18 +7,13 @@ ghost use Rattle.x64_evaluator.specs.Evaluated.{way, halted};
 ghost use Rattle.x64_evaluator.specs.Report.{end_text, mark, reg_line, xmm_line, flag_line, direction, seen_text, text_of, state_text, report_text};
 
 use crate::end::{End, RunEnd};
-use crate::settings::{push_number, push_range, push_value};
+use crate::settings::{push_range, push_value};
 use crate::trace::Trace;
+use asm_lines::{push, push_number};
 use std::alloc::{AllocError as NoMemory, Global};
 use x64_blocks::Blocks;
 use x64_meaning::{Fault, Flag, Machine, Obs};
 use x64_syntax::{FlagName, Place, Reg, Xmm};
-
-fn push(out: &mut Vec<u8>, text: &str) -> Result<(), NoMemory>
-    ensures { OnOk result (out.new.items ≡ out.old.items ++ text.now) }
-{
-    out.extend_from_slice(text.as_bytes())
-}
 
 fn push_counted(out: &mut Vec<u8>, word: &str, n: u64) -> Result<(), NoMemory>
     ensures { OnOk result (out.new.items ≡ out.old.items ++ (word.now ++ decimal n)) }

@@ -9,8 +9,8 @@ ghost use Rattle.x64_syntax.specs.Places.{place_name};
 ghost use Rattle.x64_evaluator.specs.StateFile.{limit, value_text, bytes_text, range_text, are_bytes};
 ghost use Rattle.x64_evaluator.specs.Setting.{IsValue, IsRange, range_seen, Blankless};
 
+use asm_lines::{push, push_number};
 use hex::{FromHexError, decode, encode};
-use itoa::{Buffer, Integer};
 use std::alloc::{AllocError as NoMemory, Global};
 use x64_syntax::{Place, flag_named, reg_named, xmm_named};
 
@@ -43,19 +43,12 @@ fn fits(place: Place, n: u128) -> bool
     }
 }
 
-/// Appends a number in decimal.
-pub(crate) fn push_number<I: Integer>(out: &mut Vec<u8>, n: I) -> Result<(), NoMemory>
-    ensures { OnOk result (out.new.items ≡ out.old.items ++ I.text n) }
-{
-    out.extend_from_slice(Buffer::new().format(n).as_bytes())
-}
-
 /// Appends the line of a value.
 pub(crate) fn push_value(out: &mut Vec<u8>, place: Place, n: u128) -> Result<(), NoMemory>
     ensures { OnOk result (out.new.items ≡ out.old.items ++ value_text place n) }
 {
-    out.extend_from_slice(place.name().as_bytes())?;
-    out.extend_from_slice(b" ")?;
+    push(out, place.name())?;
+    push(out, " ")?;
     push_number(out, n)
 }
 
@@ -64,9 +57,9 @@ fn push_bytes(alloc: Global, out: &mut Vec<u8>, bytes: &[u8]) -> Result<(), NoMe
     ensures { OnOk result (out.new.items ≡ out.old.items ++ bytes_text bytes.now) }
 {
     if bytes.is_empty() {
-        return out.extend_from_slice(b"-");
+        return push(out, "-");
     }
-    out.extend_from_slice(encode(alloc, bytes)?.as_bytes())
+    push(out, &encode(alloc, bytes)?)
 }
 
 /// Appends the base and the bytes of a block.
@@ -79,7 +72,7 @@ pub(crate) fn push_range(
     ensures { OnOk result (out.new.items ≡ out.old.items ++ range_text record { base = base; bytes = bytes.now }) }
 {
     push_number(out, base)?;
-    out.extend_from_slice(b" ")?;
+    push(out, " ")?;
     push_bytes(alloc, out, bytes)
 }
 
