@@ -240,7 +240,7 @@ fn report(alloc: Global, end: &str, values: &str, rest: &str) -> Result<String, 
 }
 
 // A text, its entry, a state, the steps, and the report.
-const RUNS: [(&str, &str, &str, &str, &str, &str, &str); 9] = [
+const RUNS: [(&str, &str, &str, &str, &str, &str, &str); 10] = [
     (
         INC2,
         "inc2",
@@ -294,6 +294,15 @@ const RUNS: [(&str, &str, &str, &str, &str, &str, &str); 9] = [
         "ended 15",
         "rax 18446744073709551615 rcx 1 rdx 1 rsi 8192 rdi 4096 cf 0 zf 1 sf 0 of 0",
         "block 8192 ffffffffffffffff\nblock 4096 ffffffffffffffff\ntaken\nread 8 8192\nread 8 4096\nwrite 8 4096\nnot\n",
+    ),
+    (
+        MASK,
+        "mask",
+        "rdx 1\nrsi 8192\nrdi 4096\nblock 8192 0000000000000080\nblock 4096 0000000000000080\n",
+        "100",
+        "ended 15",
+        "rcx 1 rdx 1 rsi 8192 rdi 4096 cf 0 zf 1 sf 0 of 0",
+        "block 8192 0000000000000080\nblock 4096 0000000000000000\ntaken\nread 8 8192\nread 8 4096\nwrite 8 4096\nnot\n",
     ),
     (
         ".text\n.globl last\nlast:\n\tmovq 0(%rdi), %rax\n\tret\n",
