@@ -10,3 +10,4 @@ pub mod Lines
 pub mod TextLines
 pub mod Reading
 pub mod OneState
+pub mod AsRun

@@ -1,5 +1,5 @@
 -- Runs of items whose observations are kept, as far as there is room for them.
-use Rattle.std.specs.Prelude.{ℕ, zero, suc, Bool, true, false, List, length, nat_le, if◌then◌else◌, Option, Some, slice_get}
+use Rattle.std.specs.Prelude.{◌≡◌, ◌<◌, ◌≤◌, ℕ, zero, suc, Bool, true, false, List, length, nat_le, if◌then◌else◌, Option, Some, slice_get}
 use Rattle.std.specs.List.{list_all}
 use Rattle.x64_syntax.specs.declared.items.Item.{Item}
 use Rattle.x64_syntax.specs.declared.items.Item.TheVariants as item
@@ -56,3 +56,15 @@ is_entry _ = false
 
 abbrev pub is_entry_at : List Item → ℕ → Bool
 is_entry_at items pos = is_entry (slice_get items pos)
+
+-- What an evaluation tells of the machine's run: it ended so after some of the steps, or still runs after all of them, or
+-- it came so far with its next step a fault, off the code, or one whose observation has no room.
+abbrev pub Before : List Item → ℕ → ℕ → Way → Way → (machine.End → Type 0) → Type 0
+Before items n pos w v Next = (m : ℕ) × (q : ℕ) × (m < n) × (run items m pos w ≡ Running q v) × Next (run items (suc m) pos w)
+
+abbrev pub IsRun : List Item → ℕ → ℕ → ℕ → Way → End → Way → Type 0
+IsRun items room n pos w Ended v = (m : ℕ) × (m ≤ n) × (run items m pos w ≡ machine.Ended v)
+IsRun items room n pos w Paused v = (q : ℕ) × (run items n pos w ≡ Running q v)
+IsRun items room n pos w (Faulted f) v = Before items n pos w v (λ e. e ≡ Stopped f)
+IsRun items room n pos w OffCode v = Before items n pos w v (λ e. e ≡ Past)
+IsRun items room n pos w TraceFull v = Before items n pos w v (λ e. (q : ℕ) × (u : Way) × (e ≡ Running q u) × (room < length u.seen))

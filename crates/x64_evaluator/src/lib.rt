@@ -13,7 +13,7 @@ mod tests;
 mod trace;
 
 pub use end::{End, RunEnd};
-pub use laws::one_fault;
+pub use laws::{evaluated_is_run, one_fault};
 pub use report::report_of;
 pub use run::{are_general, is_general_item, run_items};
 pub use state::{StateFault, read_state};
