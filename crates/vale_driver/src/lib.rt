@@ -15,8 +15,6 @@ mod ring;
 mod sources;
 mod status;
 mod stop;
-#[cfg(test)]
-mod tests;
 mod versions;
 mod words;
 

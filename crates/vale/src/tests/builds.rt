@@ -1,34 +1,14 @@
-// Runs of the program.
+// Builds.
 
-use crate::{Status, run};
+use super::{CERTIFICATE, INC2, Ran, SOURCE, hold, run_into, run_words};
 use std::alloc::Global;
 use std::test::Fail;
+use vale_driver::Status;
 use vale_outside::{MemSink, MemStore};
 
 const WORDS: &str = "build --syntax gas --cert a.cert a.vale";
 
 const TWO_FILES: &str = "build --syntax gas --cert a.cert a.vale b.vale";
-
-const SOURCE: &str =
-    "procedure inc2() reads rax; modifies rax, flags; ensures rax == old(rax) + 2w; { Add64(rax, 1); Add64(rax, 1); } export inc2 = inc2();\n";
-
-const CERTIFICATE: &str = "{\"condition\":\"inc2()#0\"}\n[\"ring\",[[0,1],[5,1]]]\n";
-
-const TEXT: &str = ".text\n.globl inc2\ninc2:\n\taddq $1, %rax\n\taddq $1, %rax\n\tret\n";
-
-// How a run ended, and the texts that it wrote.
-#[derive(Drop)]
-struct Ran {
-    status: Status,
-    out: MemSink,
-    err: MemSink,
-}
-
-fn hold(alloc: Global, store: &mut MemStore, name: &str, bytes: &[u8]) -> Result<(), Fail> {
-    let bytes = Vec::from_slice(alloc, bytes)?;
-    store.hold(String::from_str(alloc, name)?, bytes)?;
-    Ok(())
-}
 
 fn held(alloc: Global, source: &[u8], certificate: &[u8]) -> Result<MemStore, Fail> {
     let mut store = MemStore::new(alloc);
@@ -37,36 +17,17 @@ fn held(alloc: Global, source: &[u8], certificate: &[u8]) -> Result<MemStore, Fa
     Ok(store)
 }
 
-fn run_words(
-    alloc: Global,
-    words: &str,
-    store: &mut MemStore,
-    failing: Option<u64>,
-) -> Result<Ran, Fail> {
-    let mut list = Vec::new(alloc);
-    for word in words.split_ascii_whitespace() {
-        list.push(String::from_str(alloc, word)?)?;
-    }
-    let mut out = MemSink::new(alloc);
-    if let Some(call) = failing {
-        out.fail_at(call)?;
-    }
-    let mut err = MemSink::new(alloc);
-    let status = run(alloc, &list, store, &mut out, &mut err);
-    Ok(Ran { status, out, err })
-}
-
 // A build of one source.
 fn run_build(alloc: Global, source: &[u8], certificate: &str) -> Result<Ran, Fail> {
     let mut store = held(alloc, source, certificate.as_bytes())?;
-    run_words(alloc, WORDS, &mut store, None)
+    run_words(alloc, WORDS, &mut store)
 }
 
 // A build of two sources.
 fn run_two(alloc: Global, a: &[u8], b: &[u8]) -> Result<Ran, Fail> {
     let mut store = held(alloc, a, CERTIFICATE.as_bytes())?;
     hold(alloc, &mut store, "b.vale", b)?;
-    run_words(alloc, TWO_FILES, &mut store, None)
+    run_words(alloc, TWO_FILES, &mut store)
 }
 
 fn repeated(alloc: Global, text: &str, times: usize) -> Result<String, Fail> {
@@ -86,7 +47,7 @@ fn prints_two_additions(rt: HostRuntime) -> Result<(), Fail> {
     ] {
         let ran = run_build(rt.alloc(), source.as_bytes(), CERTIFICATE)?;
         assert_eq!(rt; ran.status, Status::Done, "at {source}");
-        assert_eq!(rt; ran.out.bytes(), TEXT.as_bytes(), "at {source}");
+        assert_eq!(rt; ran.out.bytes(), INC2.as_bytes(), "at {source}");
         assert_eq!(rt; ran.out.bytes().len(), 59);
         assert!(rt; ran.err.bytes().is_empty());
     }
@@ -193,10 +154,10 @@ fn reads_a_program_from_several_files(rt: HostRuntime) -> Result<(), Fail> {
     let export = b"export inc2 = inc2();".as_slice();
     let ran = run_two(rt.alloc(), procedure, export)?;
     assert_eq!(rt; ran.status, Status::Done);
-    assert_eq!(rt; ran.out.bytes(), TEXT.as_bytes());
+    assert_eq!(rt; ran.out.bytes(), INC2.as_bytes());
     let ran = run_two(rt.alloc(), b"// nothing", SOURCE.as_bytes())?;
     assert_eq!(rt; ran.status, Status::Done);
-    assert_eq!(rt; ran.out.bytes(), TEXT.as_bytes());
+    assert_eq!(rt; ran.out.bytes(), INC2.as_bytes());
     // the export comes last
     let ran = run_two(rt.alloc(), export, procedure)?;
     assert_eq!(rt; ran.err.bytes(), b"E2 a.vale 0 - NotBuilt\n".as_slice());
@@ -416,33 +377,12 @@ fn a_procedure_has_as_many_statements_as_the_limit(rt: HostRuntime) -> Result<()
 }
 
 #[test]
-fn answers_other_words_with_the_usage(rt: HostRuntime) -> Result<(), Fail> {
+fn reads_sixteen_files(rt: HostRuntime) -> Result<(), Fail> {
     let alloc = rt.alloc();
-    let more = repeated(alloc, " a.vale", 16)?;
-    let seventeen = format!(in alloc; "{WORDS}{more}")?;
-    for words in [
-        "",
-        "build",
-        "build --syntax gas --cert a.cert",
-        "build --syntax masm --cert a.cert a.vale",
-        "build --syntax gas --cert a.cert -",
-        "build --syntax gas --cert a.cert a.vale -b",
-        "build --syntax gas --cert - a.vale",
-        seventeen.as_str(),
-    ] {
-        let ran = run_words(alloc, words, &mut MemStore::new(alloc), None)?;
-        assert_eq!(rt; ran.status, Status::Usage, "at {words}");
-        assert_eq!(rt;
-            ran.err.bytes(),
-            b"usage: vale COMMAND [OPTIONS] FILE..\n".as_slice()
-        );
-        assert!(rt; ran.out.bytes().is_empty());
-    }
-    // sixteen files are read
     let more = repeated(alloc, " a.vale", 15)?;
     let sixteen = format!(in alloc; "{WORDS}{more}")?;
     let mut store = held(alloc, b"", b"")?;
-    let ran = run_words(alloc, sixteen.as_str(), &mut store, None)?;
+    let ran = run_words(alloc, &sixteen, &mut store)?;
     assert_eq!(rt; ran.err.bytes(), b"E2 a.vale 0 - NotBuilt\n".as_slice());
     Ok(())
 }
@@ -453,7 +393,7 @@ fn answers_a_name_that_is_not_held_with_a_read_fault(rt: HostRuntime) -> Result<
     let mut store = MemStore::new(alloc);
     hold(alloc, &mut store, "a.vale", SOURCE.as_bytes())?;
     for words in [WORDS, TWO_FILES] {
-        let ran = run_words(alloc, words, &mut store, None)?;
+        let ran = run_words(alloc, words, &mut store)?;
         assert_eq!(rt; ran.status, Status::ReadFault);
         assert_eq!(rt; ran.err.bytes(), b"read fault\n".as_slice());
         assert!(rt; ran.out.bytes().is_empty());
@@ -464,7 +404,9 @@ fn answers_a_name_that_is_not_held_with_a_read_fault(rt: HostRuntime) -> Result<
 #[test]
 fn answers_a_failing_write_with_a_write_fault(rt: HostRuntime) -> Result<(), Fail> {
     let mut store = held(rt.alloc(), SOURCE.as_bytes(), CERTIFICATE.as_bytes())?;
-    let ran = run_words(rt.alloc(), WORDS, &mut store, Some(2))?;
+    let mut out = MemSink::new(rt.alloc());
+    out.fail_at(2)?;
+    let ran = run_into(rt.alloc(), WORDS, &mut store, out)?;
     assert_eq!(rt; ran.status, Status::WriteFault);
     assert_eq!(rt; ran.status.code(), 4);
     assert_eq!(rt; ran.out.bytes(), b".text\n.globl".as_slice());
