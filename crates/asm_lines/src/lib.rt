@@ -8,5 +8,5 @@ mod listing;
 mod tests;
 
 pub use forms::{Part, Parts, instruction, operands, operation};
-pub use lines::{Syntax, cond_name, cond_named, mnemonic, push, push_number};
+pub use lines::{Syntax, cond_name, cond_named, mnemonic};
 pub use listing::list_item;

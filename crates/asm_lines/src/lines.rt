@@ -1,12 +1,10 @@
 // What lines are put together from.
 
-ghost use Rattle.std.specs.Prelude.{◌≡◌, ◌++◌, OnOk};
+ghost use Rattle.std.specs.Prelude.{◌≡◌};
 ghost use Rattle.x64_syntax.specs.declared.conditions.Cond.TheVariants as condition;
 ghost use Rattle.asm_lines.specs.Lines.{cond_name, cond_of, mnemonic};
 
 use crate::forms::operation;
-use itoa::{Buffer, Integer};
-use std::alloc::AllocError as NoMemory;
 use x64_syntax::{Cond, Ins, Opr};
 
 /// The assembler syntaxes.
@@ -14,20 +12,6 @@ use x64_syntax::{Cond, Ins, Opr};
 pub enum Syntax {
     Gas,
     Masm,
-}
-
-/// Appends a text.
-pub fn push(out: &mut Vec<u8>, text: &str) -> Result<(), NoMemory>
-    ensures { OnOk result (out.new.items ≡ out.old.items ++ text.now) }
-{
-    out.extend_from_slice(text.as_bytes())
-}
-
-/// Appends a number in decimal.
-pub fn push_number<I: Integer>(out: &mut Vec<u8>, value: I) -> Result<(), NoMemory>
-    ensures { OnOk result (out.new.items ≡ out.old.items ++ I.text value) }
-{
-    push(out, Buffer::new().format(value))
 }
 
 /// A condition as jumps have it behind their `j`.

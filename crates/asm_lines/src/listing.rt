@@ -6,9 +6,9 @@ ghost use Rattle.asm_lines.specs.declared.forms.Parts.TheVariants as shape;
 ghost use Rattle.asm_lines.specs.Listing.{index_text, memory_text, part_text, operands_text, ins_listing, listing};
 
 use crate::forms::{Part, Parts, operands, operation};
-use crate::lines::{cond_name, push, push_number};
+use crate::lines::cond_name;
 use std::alloc::{AllocError as NoMemory, Global};
-use x64_syntax::{Cond, Ins, Item, Mem, Reg, Text};
+use x64_syntax::{Cond, Ins, Item, Mem, Reg, Text, push, push_number};
 
 /// An item as it is listed: `Entry NAME`, `Label n`, `Jmp n`, `Jcc CC n`, `Ret`, or an instruction as a source has it,
 /// with memory as `(base, disp)` or `(base, index, scale, disp)`. The constant of `Mov64` has no sign.

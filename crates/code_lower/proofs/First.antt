@@ -1,11 +1,11 @@
 -- The first place of a list at which a test passes, and the block that holds an access.
 use Rattle.std.proofs.Common.{◌≡◌, ℕ, zero, suc, ◌+◌, ◌<◌, ◌≤◌, Bool, true, false, not, List, [], ◌∷◌, length, refl, sym, ap, ◌∙◌, arith, cond, ◌⊎◌, inl, inr, leb}
-use Rattle.std.specs.Prelude.{◌==◌, ◌≢◌, Option, Some, None, slice_get, nat_lt, position}
+use Rattle.std.specs.Prelude.{◌==◌, ◌≢◌, Some, None, slice_get, nat_lt, position}
 use Rattle.std.specs.List.{position_or_len}
 use Rattle.std.proofs.lemmas.Bool.{lt-ltb, false≢true, and_parts, leb-true}
 use Rattle.std.proofs.lemmas.Bool.Decides.{leb_tells, eqb_tells}
 use Rattle.std.proofs.lemmas.List.{get_or_past}
-use Rattle.std.proofs.lemmas.Option.{get_or_from_slice_get, slice_get-get_or}
+use Rattle.std.proofs.lemmas.Option.{get_or_from_slice_get, slice_get-get_or, same_Some}
 use Rattle.x64_blocks.specs.Memory.{Range, holds}
 use Rattle.x64_meaning.specs.State.{State, IsState, Covers, block_at}
 use Rattle.code_lower.specs.Guarded.{is_at}
@@ -23,13 +23,6 @@ pub record Passes {X : Type 0} (p : X → Bool) (xs : List X) : Type 0 where
 pub record Fails {X : Type 0} (p : X → Bool) (xs : List X) : Type 0 where
   pub none : position_or_len p xs ≡ length xs
   pub each : (k : ℕ) (x : X) → slice_get xs k ≡ Some x → p x ≡ false
-
--- what is inside is the same
-pub some_is : {X : Type 0} {x y : X} → ◌≡◌ {A = Option X} (Some x) (Some y) → x ≡ y
-some_is {X = X} {x = x} e = ap part e where
-  part : Option X → X
-  part (Some y) = y
-  part None = x
 
 below_itself : (n : ℕ) → nat_lt n n ≡ false
 below_itself n = by (leb_tells (suc n) n) where
@@ -69,7 +62,7 @@ module _ {X : Type 0} (p : X → Bool) where
       }
     where
       each : (k : ℕ) (x : X) → slice_get (y ∷ ys) k ≡ Some x → p x ≡ false
-      each zero x h = ap p (sym (some_is h)) ∙ e
+      each zero x h = ap p (sym (same_Some _ _ h)) ∙ e
       each (suc k) x h = f.each k x h
 
   pub first : (xs : List X) → Passes p xs ⊎ Fails p xs

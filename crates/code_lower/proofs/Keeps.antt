@@ -9,12 +9,12 @@ use Rattle.x64_syntax.specs.declared.items.Item.{Item}
 use Rattle.x64_syntax.specs.declared.items.Item.TheVariants as item
 use Rattle.x64_syntax.specs.Code.{Prog, Done, Step, If, Loop}
 use Rattle.x64_meaning.specs.State.{State, IsState}
-use Rattle.x64_meaning.specs.Run.{Way, start, stepped, run, act, Running}
+use Rattle.x64_meaning.specs.Run.{Way, start, stepped, run, act, Running, StandAt}
 use Rattle.x64_meaning.specs.Run as machine
 use Rattle.x64_meaning.specs.Contract.{Contract, Meets}
 use Rattle.code_lower.specs.Lowered.{compare, when, unless, labels, code_items, export_items}
 use Rattle.code_lower.specs.Guarded.{Course, Ended, Faulted, OutOfTurns, then_, passed, jumped, tested, arms, back, turns, guarded}
-use Rattle.code_lower.specs.Keeps.{StandAt, LabelsDiffer, later, CodeMeets}
+use Rattle.code_lower.specs.Keeps.{LabelsDiffer, later, CodeMeets}
 use Rattle.code_lower.proofs.Flags.{Four}
 use Rattle.code_lower.proofs.Bounds.{shifted, guarded_later}
 use Rattle.code_lower.proofs.Leads.{Between, between, to_end, found, Leads, Led, stays_here, leads_on, before, led_on, fewer, pass_label, pass_entry, jump, branch_taken, branch_not_taken, step_led, test_led, Decided}

@@ -13,11 +13,11 @@ use Rattle.x64_syntax.specs.declared.items.Item.TheVariants as item
 use Rattle.x64_syntax.specs.Instructions.{cond_flags}
 use Rattle.x64_meaning.specs.State.{State, flag}
 use Rattle.x64_meaning.specs.Exp.{no_words}
-use Rattle.x64_meaning.specs.Run.{Way, stepped, Outcome, does, after, after_does, at_label, is_label, is_undefined, cond_holds, branch, run, act, Running}
+use Rattle.x64_meaning.specs.Run.{Way, stepped, Outcome, does, after, after_does, at_label, is_label, is_undefined, cond_holds, branch, run, act, Running, StandAt}
 use Rattle.x64_meaning.specs.Run as machine
 use Rattle.code_lower.specs.Lowered.{compare, when, unless}
 use Rattle.code_lower.specs.Guarded.{Course, Ended, Faulted, OutOfTurns, then_, guarded_step, goes_on, stays, passed, jumped, tested, test}
-use Rattle.code_lower.specs.Keeps.{StandAt, LabelsDiffer}
+use Rattle.code_lower.specs.Keeps.{LabelsDiffer}
 use Rattle.code_lower.proofs.Flags.{Four, LeavesFour, does_four}
 use Rattle.code_lower.proofs.First.{Passes, Fails, first, position_is}
 use Rattle.code_lower.proofs.Comparisons.{Compared, compared, all_defined, taken, not_taken}

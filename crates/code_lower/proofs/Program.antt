@@ -1,12 +1,11 @@
 -- Exports one after another are a program, whose labels are in the order of the text.
-use Rattle.std.proofs.Common.{◌≡◌, ℕ, zero, suc, ◌+◌, ◌<◌, ◌≤◌, ◌^◌, Bool, true, false, not, ◌||◌, List, [], ◌∷◌, ◌++◌, length, map, refl, sym, ap, ◌∙◌, subst, arith, append_assoc, length-append}
+use Rattle.std.proofs.Common.{◌≡◌, ℕ, zero, suc, ◌+◌, ◌<◌, ◌≤◌, ◌^◌, Bool, true, false, not, ◌||◌, List, [], ◌∷◌, ◌++◌, length, map, refl, sym, ap, ◌∙◌, subst, arith, append_assoc}
 use Rattle.std.specs.Prelude.{◌&&◌, ◌==◌, nat_le, nat_lt, is_ok, is_none, Some, None, slice_get, if◌then◌else◌}
 use Rattle.std.specs.List.{list_all, list_any}
 use Rattle.std.specs.Str.{bytes_eq}
 use Rattle.std.proofs.lemmas.Bool.{and_parts, and_from, false≢true, leb-true, le-leb, lt-ltb, ltb-true, eqb-true, eq-eqb}
 use Rattle.std.proofs.lemmas.List.Folds.{list_all-append}
-use Rattle.std.proofs.lemmas.Option.{slice_get-get_or}
-use Rattle.std.proofs.Math.Seq.{get_or-append_seam}
+use Rattle.std.proofs.lemmas.Option.{same_Some}
 use Rattle.x64_syntax.specs.declared.items.Item.{Item}
 use Rattle.x64_syntax.specs.declared.items.Item.TheVariants as item
 use Rattle.x64_syntax.specs.Words.{is_export_text}
@@ -15,9 +14,10 @@ use Rattle.x64_syntax.specs.Code.{Prog, Done, Step, If, Loop, is_step, is_test, 
 use Rattle.x64_syntax.specs.Programs.{begins_with_entry, has_entry, entries_differ, is_item, labels_from, piece, has_label, stray_from, stray_jump, is_ordered, program_ok}
 use Rattle.x64_syntax.specs.LabelCount.{label_count}
 use Rattle.x64_syntax.proofs.Pieces.{has_within}
-use Rattle.code_lower.proofs.First.{some_is}
+use Rattle.x64_meaning.specs.Run.{StandAt}
+use Rattle.x64_meaning.proofs.Standing.{stands_between}
 use Rattle.code_lower.specs.Lowered.{compare, when, labels, code_items, export_items, lowered_from, lowered}
-use Rattle.code_lower.specs.Keeps.{StandAt, LabelsDiffer, all_labels, names_differ, AreExports}
+use Rattle.code_lower.specs.Keeps.{LabelsDiffer, all_labels, names_differ, AreExports}
 
 -- labels of a range
 abbrev in_range : ℕ → ℕ → ℕ → Bool
@@ -301,7 +301,7 @@ at_label_is k l x xs e h =
 
 pub no_less : (k : ℕ) (xs : List Item) → labels_from k xs ≡ true → (l j : ℕ) → slice_get xs j ≡ Some (item.Label l) → k ≤ l
 no_less k [] h l j e = absurd cc
-no_less k (x ∷ xs) h l zero e = let a = (at_label_is k l x xs (some_is e) h).0 in omega (arith, a)
+no_less k (x ∷ xs) h l zero e = let a = (at_label_is k l x xs (same_Some _ _ e) h).0 in omega (arith, a)
 no_less k (x ∷ xs) h l (suc j) e =
     let t = tail_of k x xs h in
     let le = t.1 in
@@ -312,12 +312,12 @@ pub differ_from : (k : ℕ) (xs : List Item) → labels_from k xs ≡ true → (
 differ_from k [] h l i j e f = absurd cc
 differ_from k (x ∷ xs) h l zero zero e f = refl
 differ_from k (x ∷ xs) h l zero (suc j) e f =
-    let a = at_label_is k l x xs (some_is e) h in
+    let a = at_label_is k l x xs (same_Some _ _ e) h in
     let same = a.0 in
     let more = no_less (k + 1) xs a.1 l j f in
     absurd (omega (arith, same, more))
 differ_from k (x ∷ xs) h l (suc i) zero e f =
-    let a = at_label_is k l x xs (some_is f) h in
+    let a = at_label_is k l x xs (same_Some _ _ f) h in
     let same = a.0 in
     let more = no_less (k + 1) xs a.1 l i e in
     absurd (omega (arith, same, more))
@@ -330,17 +330,6 @@ labels_differ items h l j k e f =
     let c = and_parts (list_all is_item items) (labels_from 0 items) b.1 in
     differ_from 0 items c.1 l j k e f
 
--- each export stands where those before it end
-stands_behind : (front is back : List Item) → StandAt (front ++ (is ++ back)) (length front) is
-stands_behind front [] back = tt
-stands_behind front (i ∷ is) back =
-    let within : length front < length (front ++ i ∷ (is ++ back)) = omega (arith, length-append front (i ∷ (is ++ back))) in
-    let here = slice_get-get_or (front ++ i ∷ (is ++ back)) (length front) i within ∙ ap Some (get_or-append_seam front i (is ++ back) i) in
-    let n : length (front ++ i ∷ []) ≡ length front + 1 = omega (arith, length-append front (i ∷ [])) in
-    let rest = stands_behind (front ++ i ∷ []) is back in
-    let rest' = subst (λ l. StandAt l (length (front ++ i ∷ [])) is) (append_assoc front (i ∷ []) (is ++ back)) rest in
-    (here, subst (λ m. StandAt (front ++ i ∷ (is ++ back)) m is) n rest')
-
 split_at : (k : ℕ) (es fs : List (List ℕ × Prog)) → lowered_from k (es ++ fs) ≡ lowered_from k es ++ lowered_from (k + all_labels es) fs
 split_at k [] fs = ap (λ n. lowered_from n fs) (let e : k ≡ k + 0 = omega arith in e)
 split_at k (e ∷ es) fs =
@@ -348,10 +337,11 @@ split_at k (e ∷ es) fs =
     ∙ sym (append_assoc (export_items k e.0 e.1) (lowered_from (k + labels e.1) es) _)
     ∙ ap (λ n. (export_items k e.0 e.1 ++ lowered_from (k + labels e.1) es) ++ lowered_from n fs) (let e : k + labels e.1 + all_labels es ≡ k + (labels e.1 + all_labels es) = omega arith in e)
 
+-- each export stands where those before it end
 pub stands : (front back : List (List ℕ × Prog)) (name : List ℕ) (p : Prog) → StandAt (lowered (front ++ (name, p) ∷ back)) (length (lowered front)) (export_items (all_labels front) name p)
 stands front back name p =
     let k = all_labels front in
     let e : 0 + all_labels front ≡ k = omega arith in
     let split = split_at 0 front ((name, p) ∷ back) ∙ ap (λ n. lowered front ++ lowered_from n ((name, p) ∷ back)) e in
     subst (λ l. StandAt l (length (lowered front)) (export_items k name p)) (sym split)
-    (stands_behind (lowered front) (export_items k name p) (lowered_from (k + labels p) back))
+    (stands_between (lowered front) (export_items k name p) (lowered_from (k + labels p) back))

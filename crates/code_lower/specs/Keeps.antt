@@ -12,11 +12,6 @@ use Rattle.x64_meaning.specs.Contract.{Contract, Pre, Post, Frame}
 use Rattle.code_lower.specs.Lowered.{labels}
 use Rattle.code_lower.specs.Guarded.{Ended, guarded}
 
--- these items stand in a list from a position on
-abbrev pub StandAt : List Item → ℕ → List Item → Type 0
-StandAt items at [] = Unit {0}
-StandAt items at (i ∷ is) = (slice_get items at ≡ Some i) × StandAt items (at + 1) is
-
 -- no label stands at two positions
 abbrev pub LabelsDiffer : List Item → Type 0
 LabelsDiffer items = (l j k : ℕ) → slice_get items j ≡ Some (Label l) → slice_get items k ≡ Some (Label l) → j ≡ k

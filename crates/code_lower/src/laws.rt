@@ -6,12 +6,12 @@ ghost use Rattle.x64_syntax.specs.Code.{Prog};
 ghost use Rattle.x64_syntax.specs.Programs.{program_ok};
 ghost use Rattle.x64_blocks.specs.Memory.{holds};
 ghost use Rattle.x64_meaning.specs.State.{State, IsState, block_at};
-ghost use Rattle.x64_meaning.specs.Run.{Way, start, run};
+ghost use Rattle.x64_meaning.specs.Run.{Way, start, run, StandAt};
 ghost use Rattle.x64_meaning.specs.Run as machine;
 ghost use Rattle.x64_meaning.specs.Contract.{Contract, Meets};
 ghost use Rattle.code_lower.specs.Lowered.{export_items, lowered};
 ghost use Rattle.code_lower.specs.Guarded.{Ended, Faulted, guarded, is_at};
-ghost use Rattle.code_lower.specs.Keeps.{StandAt, LabelsDiffer, later, CodeMeets, all_labels, AreExports};
+ghost use Rattle.code_lower.specs.Keeps.{LabelsDiffer, later, CodeMeets, all_labels, AreExports};
 
 /// Lowering keeps the runs of code, in every program that holds the items of its export and whose labels differ.
 ///

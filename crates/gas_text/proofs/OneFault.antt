@@ -1,8 +1,10 @@
 -- A text has one fault at most.
-use Rattle.std.proofs.Common.{◌≡◌, ℕ, ◌+◌, ◌≤◌, Bool, true, false, List, [], ◌∷◌, ◌++◌, take, drop, get_or, refl, sym, ap, ◌∙◌, arith, Some, ◌⊎◌, inl, inr}
+use Rattle.std.proofs.Common.{◌≡◌, ℕ, ◌+◌, ◌≤◌, Bool, true, false, List, [], ◌∷◌, ◌++◌, take, refl, sym, ap, ◌∙◌, arith, ◌⊎◌, inl, inr}
 use Rattle.std.specs.Prelude.{codes, ◌==◌, if◌then◌else◌}
 use Rattle.std.proofs.lemmas.List.{append_assoc}
+use Rattle.std.proofs.lemmas.Option.{same_Some}
 use Rattle.x64_syntax.specs.Programs.{stray_jump}
+use Rattle.x64_syntax.proofs.Lists.{same_head, same_tail}
 use Rattle.gas_text.specs.declared.fault.AsmFault.{AsmFault}
 use Rattle.gas_text.specs.declared.fault.AsmFault.TheVariants.{Line, Label, NoMemory}
 use Rattle.gas_text.specs.Gas.{gas_text}
@@ -14,20 +16,14 @@ data Fronts (p q : List ℕ) : Type 0 where
   within : (x : List ℕ) → q ≡ p ++ x → Fronts p q
   beyond : (b : ℕ) (y : List ℕ) → p ≡ q ++ b ∷ y → Fronts p q
 
-head_is : {x y : ℕ} {xs ys : List ℕ} → x ∷ xs ≡ y ∷ ys → x ≡ y
-head_is {x = x} e = ap (λ l. get_or l 0 x) e
-
-tail_is : {x y : ℕ} {xs ys : List ℕ} → x ∷ xs ≡ y ∷ ys → xs ≡ ys
-tail_is e = ap (drop 1) e
-
 fronts : (p r q s : List ℕ) → p ++ r ≡ q ++ s → Fronts p q
 fronts [] r q s e = within q refl
 fronts (x ∷ p) r [] s e = beyond x p refl
-fronts (x ∷ p) r (y ∷ q) s e = longer (fronts p r q s (tail_is e))
+fronts (x ∷ p) r (y ∷ q) s e = longer (fronts p r q s (same_tail e))
   where
     longer : Fronts p q → Fronts (x ∷ p) (y ∷ q)
-    longer (within z is) = within z (ap (λ b. b ∷ q) (sym (head_is e)) ∙ ap (λ l. x ∷ l) is)
-    longer (beyond b z is) = beyond b z (ap (λ l. x ∷ l) is ∙ ap (λ c. c ∷ (q ++ b ∷ z)) (head_is e))
+    longer (within z is) = within z (ap (λ b. b ∷ q) (sym (same_head e)) ∙ ap (λ l. x ∷ l) is)
+    longer (beyond b z is) = beyond b z (ap (λ l. x ∷ l) is ∙ ap (λ c. c ∷ (q ++ b ∷ z)) (same_head e))
 
 newlines_joined : (xs ys : List ℕ) → newlines (xs ++ ys) ≡ newlines xs + newlines ys
 newlines_joined [] ys = omega arith
@@ -44,7 +40,7 @@ ends_in_newline xs [] b zs e =
     omega (arith, n, same)
 ends_in_newline [] (y ∷ []) b zs e = absurd cc
 ends_in_newline [] (y ∷ (w ∷ ys)) b zs e = absurd cc
-ends_in_newline (x ∷ xs) (y ∷ ys) b zs e = ends_in_newline xs ys b zs (tail_is e)
+ends_in_newline (x ∷ xs) (y ∷ ys) b zs e = ends_in_newline xs ys b zs (same_tail e)
 
 begins_front : (a b : List ℕ) → Begins (a ++ b) → Begins a
 begins_front a b h = record { items = h.items; rest = b ++ h.rest; ordered = h.ordered; is = h.is ∙ append_assoc a b h.rest }
@@ -105,13 +101,10 @@ one_line text m n (early f t is clean begun none at) (early f' t' is' clean' beg
     let b = all_newlines text f' t' is' clean' in
     omega (arith, a, b, at, at')
 
-place_of : {a b : ℕ} → Some a ≡ Some b → a ≡ b
-place_of e = cc
-
 one_stray : (text : List ℕ) (m n : ℕ) → Strays text m → Strays text n → m ≡ n
 one_stray text m n s t =
     let same = once s.items t.items s.ordered t.ordered (s.is ∙ sym t.is) in
-    let place = place_of (sym s.stray ∙ ap stray_jump same ∙ t.stray) in
+    let place = same_Some _ _ (sym s.stray ∙ ap stray_jump same ∙ t.stray) in
     s.line ∙ ap (λ is. newlines (gas_text (take s.place is)) + 1) same ∙ ap (λ k. newlines (gas_text (take k t.items)) + 1) place ∙ sym t.line
 
 no_both : (text : List ℕ) (m n : ℕ) → BadLine text m → Strays text n → ⊥

@@ -6,9 +6,9 @@ ghost use Rattle.x64_syntax.specs.Programs.{program_ok};
 ghost use Rattle.asm_lines.specs.declared.forms.Parts.TheVariants as parts;
 ghost use Rattle.gas_text.specs.Gas.{index_text, memory_text, part_text, operands_text, ins_line, line, lines, unlines, gas_text};
 
-use asm_lines::{Part, Parts, Syntax, cond_name, mnemonic, operands, push, push_number};
+use asm_lines::{Part, Parts, Syntax, cond_name, mnemonic, operands};
 use std::alloc::{AllocError as NoMemory, Global};
-use x64_syntax::{Ins, Item, Mem, Reg};
+use x64_syntax::{Ins, Item, Mem, Reg, push, push_number};
 
 fn push_index(out: &mut Vec<u8>, index: Option<(Reg, u8)>) -> Result<(), NoMemory>
     ensures { OnOk result (out.new.items ≡ out.old.items ++ index_text index) }

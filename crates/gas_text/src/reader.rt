@@ -8,10 +8,9 @@ ghost use Rattle.gas_text.specs.Readers.{sofar, Kept};
 
 use crate::apart::found_item;
 use crate::printer::push_line;
-use asm_lines::push;
 use indexmap::IndexSet;
 use std::alloc::{AllocError as NoMemory, Global};
-use x64_syntax::{Item, Text, is_export_name, is_item};
+use x64_syntax::{Item, Text, is_export_name, is_item, push};
 
 /// What was read so far.
 #[derive(Drop)]

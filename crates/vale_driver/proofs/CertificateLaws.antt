@@ -4,6 +4,7 @@ use Rattle.std.specs.Prelude.{codes, nat_le}
 use Rattle.std.specs.List.{AllByRecursion}
 use Rattle.std.proofs.lemmas.Bool.{leb-true, le-leb, false≢true, eqb-true}
 use Rattle.std.proofs.Common.{length-append}
+use Rattle.std.proofs.lemmas.Option.{same_Some}
 use Rattle.vale_driver.specs.Reading.{◌>>=◌, given, strip, number_at}
 use Rattle.vale_driver.specs.Certificate.{Pair, FitsPair, hypothesis_limit, pair_text, more_text, pairs_text, certificate_text, pair_at, more_at, with_pairs, behind_comma, begins_pair, pairs_at, opening_at, certificate_at, last, ends}
 use Rattle.vale_driver.proofs.Pieces.{bind_some, given_some, strip_is, strip_takes, takes, number_is, number_takes}
@@ -51,11 +52,8 @@ pair_takes p rest fits =
 one_more : (p : Pair) (o : Option PairsOf) (x : PairsOf) → with_pairs (p ∷ []) o ≡ Some x → (ps : List Pair) × (o ≡ Some (ps, x.1)) × (x.0 ≡ p ∷ ps)
 one_more p None x h = absurd cc
 one_more p (Some y) x h =
-    let pair : ◌≡◌ {A = PairsOf} (p ∷ y.0, y.1) x = of_some _ _ h in
+    let pair : ◌≡◌ {A = PairsOf} (p ∷ y.0, y.1) x = same_Some _ _ h in
     (y.0, ap (λ t. Some (y.0, t)) (ap (λ (z : PairsOf). z.1) pair), sym (ap (λ (z : PairsOf). z.0) pair))
-  where
-    of_some : (x y : PairsOf) → Some x ≡ Some y → x ≡ y
-    of_some x y h = cc
 
 -- what pairs that are read say
 record Paired (bytes : List ℕ) (x : PairsOf) : Type 0 where
@@ -64,11 +62,8 @@ record Paired (bytes : List ℕ) (x : PairsOf) : Type 0 where
 
 paired_none : (bytes : List ℕ) (x : PairsOf) → ◌≡◌ {A = Option PairsOf} (Some ([], bytes)) (Some x) → Paired bytes x
 paired_none bytes x h =
-    let pair : ◌≡◌ {A = PairsOf} ([], bytes) x = of_some _ _ h in
+    let pair : ◌≡◌ {A = PairsOf} ([], bytes) x = same_Some _ _ h in
     subst (Paired bytes) pair (record { text = refl; fits = tt })
-  where
-    of_some : (x y : PairsOf) → Some x ≡ Some y → x ≡ y
-    of_some x y h = cc
 
 more_is : (n : ℕ) (bytes : List ℕ) (x : PairsOf) → more_at n bytes ≡ Some x → Paired bytes x
 unfolding more_at
@@ -124,7 +119,7 @@ pairs_is bytes x h = by_test (begins_pair bytes) h
     of_some x y h = cc
 
     by_test : (b : Bool) → ◌≡◌ {A = Option PairsOf} (cond b (pair_at bytes >>= λ p. with_pairs (p.0 ∷ []) (more_at (length p.1) p.1)) (Some ([], bytes))) (Some x) → Listed bytes x
-    by_test false h = subst (Listed bytes) (of_some _ _ h) (record { text = refl; fits = tt })
+    by_test false h = subst (Listed bytes) (same_Some _ _ h) (record { text = refl; fits = tt })
     by_test true h =
         let p = bind_some (pair_at bytes) _ _ h in
         let m = one_more p.0.0 (more_at (length p.0.1) p.0.1) x p.2 in

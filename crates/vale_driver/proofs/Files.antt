@@ -5,6 +5,7 @@ use Rattle.std.specs.declared.alloc.Global.{Global}
 use Rattle.std.specs.List.{AllByRecursion}
 use Rattle.std.proofs.Math.Seq.{drop-cons}
 use Rattle.std.proofs.lemmas.List.{append-nil, length-replicate}
+use Rattle.x64_syntax.proofs.Lists.{same_head, same_tail}
 use Rattle.vale_syntax.specs.Tokens.{Lexed, All, lexed}
 use Rattle.vale_syntax.specs.Programs.{De}
 use Rattle.vale_syntax.specs.Declarations.{AreDecls}
@@ -125,39 +126,32 @@ pub parsed_all : (decls : List De) (rest all : List Scanned) → rest ≡ [] →
 parsed_all decls rest all e h = subst (Parsed all) (append-nil decls) (h.parsed [] (subst (λ l. Parsed l []) (sym e) refl))
 
 -- What is known of the files as they are kept is known of the files as they are.
-apart : {A : Type 0} (x y : A) (xs ys : List A) → x ∷ xs ≡ y ∷ ys → (x ≡ y) × (xs ≡ ys)
-apart x y xs ys e = (ap (λ l. get_or l 0 x) e, ap (λ l. drop 1 l) e)
-
 have_tokens : (scs : List Scanned) (ss : List Source) → map kept scs ≡ map scan ss → AllByRecursion HasTokens ss
 have_tokens scs [] e = tt
 have_tokens [] (s ∷ ss) e = absurd cc
 have_tokens (t ∷ scs) (s ∷ ss) e =
-    let p = apart (kept t) (scan s) (map kept scs) (map scan ss) e in
-    let both = same_scan t.name.now s.name (All t.tokens.items) (lexed s.number 0 0 s.bytes) p.0 in
-    (record { tokens = t.tokens.items; all = sym both.1 }, have_tokens scs ss p.1)
+    let both = same_scan t.name.now s.name (All t.tokens.items) (lexed s.number 0 0 s.bytes) (same_head e) in
+    (record { tokens = t.tokens.items; all = sym both.1 }, have_tokens scs ss (same_tail e))
 
 declared : (scs : List Scanned) (ss : List Source) (decls : List De) → map kept scs ≡ map scan ss → Parsed scs decls → Declared ss decls
 declared [] [] decls e h = h
 declared [] (s ∷ ss) decls e h = absurd cc
 declared (t ∷ scs) [] decls e h = absurd cc
 declared (t ∷ scs) (s ∷ ss) decls e h =
-    let p = apart (kept t) (scan s) (map kept scs) (map scan ss) e in
-    let both = same_scan t.name.now s.name (All t.tokens.items) (lexed s.number 0 0 s.bytes) p.0 in
+    let both = same_scan t.name.now s.name (All t.tokens.items) (lexed s.number 0 0 s.bytes) (same_head e) in
     let (xs, ys, are, more, is) = h in
-    (xs, ys, record { tokens = t.tokens.items; all = sym both.1; are = are }, declared scs ss ys p.1 more, is)
+    (xs, ys, record { tokens = t.tokens.items; all = sym both.1; are = are }, declared scs ss ys (same_tail e) more, is)
 
 not_declared : (scs : List Scanned) (ss : List Source) (r : Refusal) → map kept scs ≡ map scan ss → FirstOf Parses Unparsed scs r → FirstOf IsRead NotADecl ss r
 not_declared [] ss r e h = absurd h
 not_declared (t ∷ scs) [] r e h = absurd cc
 not_declared (t ∷ scs) (s ∷ ss) r e (inl u) =
-    let p = apart (kept t) (scan s) (map kept scs) (map scan ss) e in
-    let both = same_scan t.name.now s.name (All t.tokens.items) (lexed s.number 0 0 s.bytes) p.0 in
+    let both = same_scan t.name.now s.name (All t.tokens.items) (lexed s.number 0 0 s.bytes) (same_head e) in
     inl record { tokens = t.tokens.items; all = sym both.1; first = u.first; stops = u.stops; is = u.is ∙ ap (λ n. refusal 2 (Some n) (Some u.first.at) (codes "NotADecl")) both.0 }
 not_declared (t ∷ scs) (s ∷ ss) r e (inr h) =
-    let p = apart (kept t) (scan s) (map kept scs) (map scan ss) e in
-    let both = same_scan t.name.now s.name (All t.tokens.items) (lexed s.number 0 0 s.bytes) p.0 in
+    let both = same_scan t.name.now s.name (All t.tokens.items) (lexed s.number 0 0 s.bytes) (same_head e) in
     let (xs, are) = h.0 in
-    inr ((xs, record { tokens = t.tokens.items; all = sym both.1; are = are }), not_declared scs ss r p.1 h.1)
+    inr ((xs, record { tokens = t.tokens.items; all = sym both.1; are = are }), not_declared scs ss r (same_tail e) h.1)
 
 pub are_read : (ss : List Source) (decls : List De) → Declared ss decls → AllByRecursion IsRead ss
 are_read [] decls h = tt

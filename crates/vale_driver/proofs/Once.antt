@@ -3,6 +3,7 @@ use Rattle.std.proofs.Common.{◌≡◌, ℕ, List, [], ◌∷◌, ◌++◌, map
 use Rattle.std.specs.Prelude.{IfSome, codes, drop}
 use Rattle.std.specs.List.{AllByRecursion}
 use Rattle.std.proofs.lemmas.Bool.{false≢true}
+use Rattle.std.proofs.lemmas.Option.{same_Some}
 use Rattle.vale_syntax.specs.declared.token.Token.{Token}
 use Rattle.vale_syntax.specs.declared.token.NotAToken.{NotAToken}
 use Rattle.vale_syntax.specs.declared.spot.Spot.{Spot}
@@ -93,9 +94,7 @@ declared_once (s ∷ ss) xs ys h k =
     is ∙ ap (λ l. l ++ b) (decls_once s a c has has') ∙ ap (λ l. c ++ l) (declared_once ss b d more more') ∙ sym is'
 
 spells_once : (ss : List Source) (p q : StraightLine) → Spells ss p → Spells ss q → p ≡ q
-spells_once ss p q h k = same (sym h.is_form ∙ ap straight_line (declared_once ss h.decls k.decls h.declared k.declared) ∙ k.is_form) where
-  same : {a b : StraightLine} → Some a ≡ Some b → a ≡ b
-  same e = cc
+spells_once ss p q h k = same_Some _ _ (sym h.is_form ∙ ap straight_line (declared_once ss h.decls k.decls h.declared k.declared) ∙ k.is_form)
 
 form_apart : (ss : List Source) (file : Option (List ℕ)) (p : StraightLine) (r : Refusal) → Spells ss p → NoForm file ss r → ⊥
 form_apart ss file p r h k = differ (sym h.is_form ∙ ap straight_line (declared_once ss h.decls k.decls h.declared k.declared) ∙ k.none) where
@@ -104,10 +103,7 @@ form_apart ss file p r h k = differ (sym h.is_form ∙ ap straight_line (declare
 
 proves_once : (c name : List ℕ) (ps qs : List Pair) → Proves c name ps → Proves c name qs → ps ≡ qs
 proves_once c name ps qs h k =
-    same (sym (certificate_takes name ps h.newline h.fits) ∙ ap (certificate_at name) (sym h.text_is ∙ k.text_is) ∙ certificate_takes name qs k.newline k.fits)
-  where
-    same : {a b : List Pair} → Some a ≡ Some b → a ≡ b
-    same e = cc
+    same_Some _ _ (sym (certificate_takes name ps h.newline h.fits) ∙ ap (certificate_at name) (sym h.text_is ∙ k.text_is) ∙ certificate_takes name qs k.newline k.fits)
 
 module _ (b : Build) (h : BuildFiles) where
   certificate_apart : (p : StraightLine) (ps : List Pair) (r : Refusal) → Spells (sources_of b h) p → Proves h.cert p.name ps → CertificateRefused b h r → ⊥

@@ -1,6 +1,7 @@
 -- A text or a state has one refusal at most, and none where it is read.
 use Rattle.std.proofs.Common.{◌≡◌, ℕ, List, Option, Some, None, sym, ap, ◌∙◌, subst, arith, inl, inr, ◌⊎◌, take, ◌+◌, codes}
 use Rattle.std.specs.Prelude.{position, Result, Ok, Err}
+use Rattle.std.proofs.lemmas.Option.{same_Some}
 use Rattle.x64_syntax.specs.declared.items.Item.{Item}
 use Rattle.gas_text.specs.declared.fault.AsmFault.{AsmFault}
 use Rattle.gas_text.specs.declared.fault.AsmFault.TheVariants as asm
@@ -97,16 +98,13 @@ text_none file text r items read (label_text s n b is) = apart (no_fault text it
 items_same : (text : List ℕ) (x y : List Item) → TextRead text x → TextRead text y → x ≡ y
 items_same text x y h k = one_list text x y h.reads k.reads
 
-place_is : {a b : ℕ} → Some a ≡ Some b → a ≡ b
-place_is e = cc
-
 no_place : {a : ℕ} → ◌≡◌ {A = Option ℕ} (Some a) None → ⊥
 no_place e = absurd cc
 
 wide_once : (file text : List ℕ) (r q : Refusal) → WideRefused file text r → WideRefused file text q → r ≡ q
 wide_once file text r q h k =
     let same = items_same text h.items k.items h.read k.read in
-    let place = place_is (sym h.first ∙ ap (position is_wide) same ∙ k.first) in
+    let place = same_Some _ _ (sym h.first ∙ ap (position is_wide) same ∙ k.first) in
     h.is
     ∙ at_line file (codes "NotBuilt") _ _ (ap (λ is. newlines (gas_text (take h.place is)) + 1) same ∙ ap (λ n. newlines (gas_text (take n k.items)) + 1) place)
     ∙ sym k.is

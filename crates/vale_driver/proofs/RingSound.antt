@@ -5,6 +5,7 @@ use Rattle.std.specs.List.{list_all, AllByRecursion}
 use Rattle.std.proofs.lemmas.Bool.{and_parts, and_from, false≢true, eqb-true}
 use Rattle.std.proofs.lemmas.Nat.{mod_below, mul-mod_second, mul-mod_first}
 use Rattle.std.proofs.Math.Nat.{add-mod-mod, mod-add-mod, mul_assoc, add-mul-mod_self_left}
+use Rattle.std.proofs.lemmas.Option.{same_Some}
 use Rattle.term_core.specs.declared.operator.Sort.TheVariants as sort
 use Rattle.term_core.specs.declared.operator.BinOp.TheVariants as bin
 use Rattle.term_core.specs.Terms.{Tm, W64, Bin, tm_sort}
@@ -285,27 +286,21 @@ module _ (g : Functions) (a : Assignment) where
   -- hypotheses that hold are worth nothing together
   weighted_none : (hyps : List Tm) → AllByRecursion (Holds g a) hyps → (ps : List Pair) (w : Weighted) → weighted hyps ps ≡ Some w → Alike (total w.occurrences_) 0
   unfolding total
-  weighted_none hyps ok [] w h = let e : record { occurrences_ = []; width_ = 0 } ≡ w = of_some _ _ h in ap (λ (x : Weighted). total x.occurrences_ % T) (sym e) ∙ nothing
+  weighted_none hyps ok [] w h = let e : record { occurrences_ = []; width_ = 0 } ≡ w = same_Some _ _ h in ap (λ (x : Weighted). total x.occurrences_ % T) (sym e) ∙ nothing
     where
-      of_some : (x y : Weighted) → Some x ≡ Some y → x ≡ y
-      of_some x y h = cc
-
       nothing : Alike (total []) 0
       nothing = refl
   weighted_none hyps ok (p ∷ ps) w h =
       let b = bind_some (slice_get hyps p.0) _ _ h in
       let s = bind_some (sides b.0) _ _ b.2 in
       let r = bind_some (weighted hyps ps) _ _ s.2 in
-      let e = of_some _ _ r.2 in
+      let e = same_Some _ _ r.2 in
       let equal = holds_sides b.0 s.0 s.1 (hyp_holds hyps p.0 b.0 b.1 ok) in
       let d = difference s.0.left s.0.right in
       ap (λ (x : Weighted). total x.occurrences_ % T) (sym e)
       ∙ ap (λ n. n % T) (total-append (times p.1 d) r.0.occurrences_)
       ∙ alike_add _ (p.1 * 0) _ 0 (total-times p.1 d ∙ alike_times p.1 _ 0 (difference_none s.0.left s.0.right equal)) (weighted_none hyps ok ps r.0 r.1)
       ∙ (let z : p.1 * 0 + 0 ≡ 0 = omega arith in ap (λ n. n % T) z)
-    where
-      of_some : (x y : Weighted) → Some x ≡ Some y → x ≡ y
-      of_some x y h = cc
 
   pub ring_sound : (hyps : List Tm) (goal : Tm) (ps : List Pair) → ring_closes hyps goal ps ≡ true → AllByRecursion (Holds g a) hyps → Holds g a goal
   ring_sound hyps goal ps h ok = by_sides (sides goal) refl h

@@ -3,6 +3,7 @@ use Rattle.std.proofs.Common.{◌≡◌, ℕ, zero, suc, ◌+◌, ◌-◌, ◌�
 use Rattle.std.specs.List.{find, prefix_len, AllByRecursion}
 use Rattle.std.proofs.lemmas.List.Sums.{prefix_len-le-length}
 use Rattle.std.proofs.lemmas.Slice.Eq.{bytes_eq-Decides}
+use Rattle.std.proofs.lemmas.Option.{same_Some}
 use Rattle.x64_syntax.specs.Words.{is_name_byte, is_digit_byte}
 use Rattle.vale_syntax.specs.declared.token.TokenKind.{TokenKind}
 use Rattle.vale_syntax.specs.declared.token.Front.{Front}
@@ -18,9 +19,6 @@ begins_short literal bytes h =
     let taken = length-take (length literal) bytes in
     omega (arith, same, taken)
 
-some_is : (m n : ℕ) → Some m ≡ Some n → m ≡ n
-some_is m n h = cc
-
 -- each way of a choice fits
 choice_fits : (t : Bool) (total : ℕ) (f g : Front) → (t ≡ true → Fits total f) → (t ≡ false → Fits total g) → Fits total (cond t f g)
 choice_fits true total f g h k = h refl
@@ -33,10 +31,10 @@ close_short (b ∷ bs) n h = by_test (begins (codes "*/") (b ∷ bs)) refl h (λ
   where
     one_more : (o : Option ℕ) → option_map (λ k. k + 1) o ≡ Some n → ((m : ℕ) → o ≡ Some m → m ≤ length bs) → n ≤ suc (length bs)
     one_more None e f = absurd cc
-    one_more (Some m) e f = let short = f m refl in let same : m + 1 ≡ n = some_is _ _ e in omega (arith, short, same)
+    one_more (Some m) e f = let short = f m refl in let same : m + 1 ≡ n = same_Some _ _ e in omega (arith, short, same)
 
     by_test : (t : Bool) → begins (codes "*/") (b ∷ bs) ≡ t → cond t (Some 2) (option_map (λ k. k + 1) (close_len bs)) ≡ Some n → ((m : ℕ) → close_len bs ≡ Some m → m ≤ length bs) → n ≤ suc (length bs)
-    by_test true e f g = let long = begins_short (codes "*/") (b ∷ bs) e in let same : 2 ≡ n = some_is _ _ f in omega (arith, long, same)
+    by_test true e f g = let long = begins_short (codes "*/") (b ∷ bs) e in let same : 2 ≡ n = same_Some _ _ f in omega (arith, long, same)
     by_test false e f g = one_more (close_len bs) f g
 
 below_fits : (limit : ℕ) (k : ℕ → TokenKind) (len total : ℕ) (n : Option ℕ) → 1 ≤ len → len ≤ total → Fits total (below limit k len n)
@@ -106,22 +104,16 @@ found_begins : (bytes : List ℕ) (ms : List (List ℕ × Mark)) (m : List ℕ �
 found_begins bytes [] m h = absurd cc
 found_begins bytes (k ∷ ms) m h = by_test (begins k.0 bytes) refl h (found_begins bytes ms m)
   where
-    same : (k m : List ℕ × Mark) → Some k ≡ Some m → k ≡ m
-    same k m e = cc
-
     by_test : (t : Bool) → begins k.0 bytes ≡ t → cond t (Some k) (find (λ m. begins m.0 bytes) ms) ≡ Some m → (find (λ m. begins m.0 bytes) ms ≡ Some m → begins m.0 bytes ≡ true) → begins m.0 bytes ≡ true
-    by_test true e f g = subst (λ x. begins x.0 bytes ≡ true) (same k m f) e
+    by_test true e f g = subst (λ x. begins x.0 bytes ≡ true) (same_Some k m f) e
     by_test false e f g = g f
 
 found_some : (bytes : List ℕ) (ms : List (List ℕ × Mark)) (m : List ℕ × Mark) → AllByRecursion (λ k. 1 ≤ length k.0) ms → find (λ m. begins m.0 bytes) ms ≡ Some m → 1 ≤ length m.0
 found_some bytes [] m all h = absurd cc
 found_some bytes (k ∷ ms) m all h = by_test (begins k.0 bytes) h (found_some bytes ms m all.1)
   where
-    same : (k m : List ℕ × Mark) → Some k ≡ Some m → k ≡ m
-    same k m e = cc
-
     by_test : (t : Bool) → cond t (Some k) (find (λ m. begins m.0 bytes) ms) ≡ Some m → (find (λ m. begins m.0 bytes) ms ≡ Some m → 1 ≤ length m.0) → 1 ≤ length m.0
-    by_test true f g = subst (λ x. 1 ≤ length x.0) (same k m f) all.0
+    by_test true f g = subst (λ x. 1 ≤ length x.0) (same_Some k m f) all.0
     by_test false f g = g f
 
 -- the mark that is found begins the text, and isn't empty

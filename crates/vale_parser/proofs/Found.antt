@@ -1,5 +1,6 @@
 -- What the productions without statements spell is found.
 use Rattle.std.proofs.Common.{◌≡◌, ℕ, zero, suc, ◌+◌, ◌<◌, ◌≤◌, Bool, true, false, cond, List, [], ◌∷◌, length, drop, Some, refl, sym, ◌∙◌, ap, subst, arith}
+use Rattle.std.proofs.lemmas.Option.{same_Some}
 use Rattle.x64_syntax.specs.declared.keywords.Keyword.TheVariants as word
 use Rattle.vale_syntax.specs.declared.token.Token.{Token}
 use Rattle.vale_syntax.specs.declared.spot.Spot.{Spot}
@@ -136,14 +137,8 @@ ghost_found s t ts p q r =
 -- behind `secret` or nothing
 guarded_operand : (s : Spot) (b : Bool) (d : Direction) (k : Kind) (f : Lookahead) (ts : List Token) → direction_by f ≡ Some d → peek ts ≡ see.Name → peek (drop 1 ts) ≡ see.Mark mark.Colon → kind_at (drop 2 ts) ≡ Some k
     → guarded_by s b f ts ≡ Some (param.Operand s b d (name_of ts) k, drop 3 ts)
-guarded_operand s b d k (see.Keyword word.In) ts e p q r = subst (λ d. operand_at s b direction.In ts ≡ Some (param.Operand s b d (name_of ts) k, drop 3 ts)) (same direction.In d e) (operand_found s b direction.In k ts p q r)
-  where
-    same : (c d : Direction) → Some c ≡ Some d → c ≡ d
-    same c d h = cc
-guarded_operand s b d k (see.Keyword word.InOut) ts e p q r = subst (λ d. operand_at s b direction.InOut ts ≡ Some (param.Operand s b d (name_of ts) k, drop 3 ts)) (same direction.InOut d e) (operand_found s b direction.InOut k ts p q r)
-  where
-    same : (c d : Direction) → Some c ≡ Some d → c ≡ d
-    same c d h = cc
+guarded_operand s b d k (see.Keyword word.In) ts e p q r = subst (λ d. operand_at s b direction.In ts ≡ Some (param.Operand s b d (name_of ts) k, drop 3 ts)) (same_Some direction.In d e) (operand_found s b direction.In k ts p q r)
+guarded_operand s b d k (see.Keyword word.InOut) ts e p q r = subst (λ d. operand_at s b direction.InOut ts ≡ Some (param.Operand s b d (name_of ts) k, drop 3 ts)) (same_Some direction.InOut d e) (operand_found s b direction.InOut k ts p q r)
 guarded_operand s b d k _ ts e p q r = absurd cc
 
 block_found : (s : Spot) (b : Bool) (ts : List Token) → peek ts ≡ see.Name → block_at s b ts ≡ Some (param.Block s b (name_of ts), drop 1 ts)

@@ -1,6 +1,7 @@
 -- Lists that are found are spelled, and those that are spelled are found.
 use Rattle.std.proofs.Common.{◌≡◌, ℕ, zero, suc, ◌≤◌, Bool, true, false, cond, List, [], ◌∷◌, ◌++◌, length, drop, length-drop, Option, Some, None, refl, sym, ◌∙◌, ap, subst, arith}
 use Rattle.std.proofs.lemmas.Bool.{false≢true}
+use Rattle.std.proofs.lemmas.Option.{same_Some}
 use Rattle.x64_syntax.specs.declared.keywords.Keyword.{Keyword}
 use Rattle.vale_syntax.specs.declared.token.Token.{Token}
 use Rattle.vale_syntax.specs.declared.mark.Mark.{Mark}
@@ -10,9 +11,6 @@ use Rattle.vale_syntax.specs.declared.lookahead.Lookahead.TheVariants as see
 use Rattle.vale_syntax.specs.Peek.{peek}
 use Rattle.vale_syntax.specs.Lists.{Relation, Commas, last, next, Separated, separated as is_separated, Closed, empty, filled, Many, enough, again}
 use Rattle.vale_parser.specs.Parts.{bind, Parser, mark_eq, is_mark, expect, before, commas, separated, closed, many}
-
-pub same : {A : Type 0} (x y : A) → Some x ≡ Some y → x ≡ y
-same x y h = cc
 
 pub bind_some : {A B : Type 0} (o : Option A) (f : A → Option B) (y : B) → bind o f ≡ Some y → (x : A) × (o ≡ Some x) × (f x ≡ Some y)
 bind_some (Some x) f y h = (x, refl, h)
@@ -45,7 +43,7 @@ pub expected : (m : Mark) (ts rest : List Token) → expect m ts ≡ Some rest �
 expected m ts rest h = by_test (is_mark m (peek ts)) refl h
   where
     by_test : (t : Bool) → is_mark m (peek ts) ≡ t → cond t (Some (drop 1 ts)) None ≡ Some rest → (peek ts ≡ see.Mark m) × (drop 1 ts ≡ rest)
-    by_test true e h = (peek_is m (peek ts) e, same (drop 1 ts) rest h)
+    by_test true e h = (peek_is m (peek ts) e, same_Some (drop 1 ts) rest h)
     by_test false e h = absurd cc
 
 -- a mark that is asked for is found

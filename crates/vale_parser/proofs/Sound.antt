@@ -2,6 +2,7 @@
 use Rattle.std.proofs.Common.{◌≡◌, ℕ, ◌+◌, Bool, true, false, cond, List, drop, Option, Some, None, refl, sym, ◌∙◌, ap, subst}
 use Rattle.std.specs.Prelude.{◌&&◌}
 use Rattle.std.proofs.lemmas.Bool.{and_parts, false≢true}
+use Rattle.std.proofs.lemmas.Option.{same_Some}
 use Rattle.x64_syntax.specs.declared.keywords.Keyword.TheVariants as word
 use Rattle.vale_syntax.specs.declared.token.Token.{Token}
 use Rattle.vale_syntax.specs.declared.mark.Mark.{Mark}
@@ -30,7 +31,7 @@ use Rattle.vale_syntax.proofs.Sound.{bind_some as parse_some, sound}
 use Rattle.expr_parser.specs.Reads.{expression}
 use Rattle.vale_parser.specs.Parts.{bind as and_then, is_mark, expect, before, separated}
 use Rattle.vale_parser.specs.Productions.{asked, is_name, is_secret, is_invariant, name, sort_behind, kind_behind, bind, place_at, place, inline_sort, guarded_by, param_by, parameter, memory_at, value_at, argument_by, argument, expression_end, invariant_, test}
-use Rattle.vale_parser.proofs.Parts.{same, bind_some, peek_is, expected, separated_sound}
+use Rattle.vale_parser.proofs.Parts.{bind_some, peek_is, expected, separated_sound}
 use Rattle.vale_parser.proofs.Found.{dd}
 
 pub pair_of : {A : Type 0} (p q : A × List Token) → Some p ≡ Some q → (p.0 ≡ q.0) × (p.1 ≡ q.1)
@@ -69,7 +70,7 @@ on_sort k ts F y h =
     let (l, a, b) = bind_some (expect mark.Colon (drop k ts)) (λ rest. and_then (sort_at rest) (λ s. Some (s, drop 1 rest))) p q in
     let (s, c, d) = bind_some (sort_at l) (λ s. Some (s, drop 1 l)) p b in
     let e = expected mark.Colon (drop k ts) l a in
-    (s, e.0, ap sort_at (sym (dd k 1 ts) ∙ e.1) ∙ c, ap (λ m. F (s, m)) (sym (dd k 2 ts) ∙ sym (dd 1 1 (drop k ts)) ∙ ap (λ m. drop 1 m) e.1) ∙ ap F (same _ p d) ∙ r)
+    (s, e.0, ap sort_at (sym (dd k 1 ts) ∙ e.1) ∙ c, ap (λ m. F (s, m)) (sym (dd k 2 ts) ∙ sym (dd 1 1 (drop k ts)) ∙ ap (λ m. drop 1 m) e.1) ∙ ap F (same_Some _ p d) ∙ r)
 
 pub on_kind : {B : Type 0} (k : ℕ) (ts : List Token) (F : Kind × List Token → Option B) (y : B) → and_then (kind_behind (drop k ts)) F ≡ Some y
     → (s : Kind) × (peek (drop k ts) ≡ see.Mark mark.Colon) × (kind_at (drop (k + 1) ts) ≡ Some s) × (F (s, drop (k + 2) ts) ≡ Some y)
@@ -78,7 +79,7 @@ on_kind k ts F y h =
     let (l, a, b) = bind_some (expect mark.Colon (drop k ts)) (λ rest. and_then (kind_at rest) (λ s. Some (s, drop 1 rest))) p q in
     let (s, c, d) = bind_some (kind_at l) (λ s. Some (s, drop 1 l)) p b in
     let e = expected mark.Colon (drop k ts) l a in
-    (s, e.0, ap kind_at (sym (dd k 1 ts) ∙ e.1) ∙ c, ap (λ m. F (s, m)) (sym (dd k 2 ts) ∙ sym (dd 1 1 (drop k ts)) ∙ ap (λ m. drop 1 m) e.1) ∙ ap F (same _ p d) ∙ r)
+    (s, e.0, ap kind_at (sym (dd k 1 ts) ∙ e.1) ∙ c, ap (λ m. F (s, m)) (sym (dd k 2 ts) ∙ sym (dd 1 1 (drop k ts)) ∙ ap (λ m. drop 1 m) e.1) ∙ ap F (same_Some _ p d) ∙ r)
 
 -- a thing and the mark behind it
 pub on_before : {A B : Type 0} (m : Mark) (o : Option (A × List Token)) (F : A × List Token → Option B) (y : B) → and_then (before m o) F ≡ Some y
@@ -88,7 +89,7 @@ on_before m o F y h =
     let (u, a, b) = bind_some o (λ p. and_then (expect m p.1) (λ rest. Some (p.0, rest))) p q in
     let (l, c, d) = bind_some (expect m u.1) (λ rest. Some (u.0, rest)) p b in
     let e = expected m u.1 l c in
-    (u.0, u.1, a, e.0, ap (λ l. F (u.0, l)) e.1 ∙ ap F (same _ p d) ∙ r)
+    (u.0, u.1, a, e.0, ap (λ l. F (u.0, l)) e.1 ∙ ap F (same_Some _ p d) ∙ r)
 
 pub before_is : {A : Type 0} (m : Mark) (o : Option (A × List Token)) (x : A) (rest : List Token) → before m o ≡ Some (x, rest) → (mid : List Token) × (o ≡ Some (x, mid)) × (peek mid ≡ see.Mark m) × (drop 1 mid ≡ rest)
 before_is m o x rest h =

@@ -1,5 +1,6 @@
 -- What is found is spelled: statements of lemmas.
 use Rattle.std.proofs.Common.{◌≡◌, ℕ, zero, suc, ◌≤◌, max, Bool, true, false, cond, List, length, drop, Some, refl, sym, subst, arith}
+use Rattle.std.proofs.lemmas.Option.{same_Some}
 use Rattle.x64_syntax.specs.declared.keywords.Keyword.TheVariants as word
 use Rattle.vale_syntax.specs.declared.token.Token.{Token}
 use Rattle.vale_syntax.specs.declared.mark.Mark.TheVariants as mark
@@ -12,7 +13,7 @@ use Rattle.vale_syntax.specs.Statements.{Expression, lsts_last, LStatement, lcal
 use Rattle.expr_parser.specs.Reads.{expression}
 use Rattle.vale_parser.specs.Parts.{bind as and_then, is_mark, before, closed}
 use Rattle.vale_parser.specs.Productions.{is_else, test, lcall, LStated, LBodied, LArmed, LBranches, lstated, lbodied, larmed, lbranches, LStatements, lbody, lblock, lelse_by, larms, lif_at, lstatement_by, lstatement}
-use Rattle.vale_parser.proofs.Parts.{same, bind_some, peek_is, closed_sound}
+use Rattle.vale_parser.proofs.Parts.{bind_some, peek_is, closed_sound}
 use Rattle.vale_parser.proofs.Sound.{on_expect, on_before, expression_sound, test_sound}
 use Rattle.vale_parser.proofs.SoundStatements.{else_is}
 
@@ -36,7 +37,7 @@ body_sound sub b (suc n) d xs ts r sound k h =
     by_test : (t : Bool) → is_mark mark.BraceClose (peek ts) ≡ t
         → ((s : LStated) → max d s.height ≤ b → lbody sub n (lsts_last xs s.tree) (max d s.height) s.rest ≡ Some r → BodyTo b (max d s.height) (lsts_last xs s.tree) s.rest r)
         → cond t (Some (lbodied xs d (drop 1 ts))) (and_then (sub ts) (λ s. lbody sub n (lsts_last xs s.tree) (max d s.height) s.rest)) ≡ Some r → BodyTo b d xs ts r
-    by_test true e go h = subst (BodyTo b d xs ts) (same (lbodied xs d (drop 1 ts)) r h) (record { mid = ts; low = k; spelled = lended; closes = peek_is mark.BraceClose (peek ts) e; behind = refl })
+    by_test true e go h = subst (BodyTo b d xs ts) (same_Some (lbodied xs d (drop 1 ts)) r h) (record { mid = ts; low = k; spelled = lended; closes = peek_is mark.BraceClose (peek ts) e; behind = refl })
     by_test false e go h =
         let (s, p, q) = bind_some (sub ts) (λ s. lbody sub n (lsts_last xs s.tree) (max d s.height) s.rest) r h in
         let one = sound ts s p in
@@ -61,8 +62,8 @@ else_sound sub b ts r sound h = by_test (is_else (peek ts)) refl h
     by_test true e h =
         let (l, p, q) = bind_some (lblock sub (drop 1 ts)) (λ b. Some (larmed (larm b.trees) b.height b.rest)) r h in
         let a = block_sound sub b (drop 1 ts) l sound p in
-        subst (ElseTo b ts) (same _ r q) (a.0, lpresent (else_is (peek ts) e) a.1)
-    by_test false e h = subst (ElseTo b ts) (same (larmed no_larm 0 ts) r h) (omega arith, labsent)
+        subst (ElseTo b ts) (same_Some _ r q) (a.0, lpresent (else_is (peek ts) e) a.1)
+    by_test false e h = subst (ElseTo b ts) (same_Some (larmed no_larm 0 ts) r h) (omega arith, labsent)
 
 record ArmsTo (b : ℕ) (ts : List Token) (r : LBranches) : Type 0 where
   first_depth : ℕ
@@ -82,7 +83,7 @@ arms_sound sub b ts r sound h =
     let c = else_sound sub b f.rest s sound t in
     let x = a.0 in
     let y = c.0 in
-    subst (ArmsTo b ts) (same _ r u) (record { first_depth = f.height; second_depth = s.height; mid = f.rest; first = a.1; second = c.1; depth = refl; low = omega (arith, x, y) })
+    subst (ArmsTo b ts) (same_Some _ r u) (record { first_depth = f.height; second_depth = s.height; mid = f.rest; first = a.1; second = c.1; depth = refl; low = omega (arith, x, y) })
 
 StatementTo : ℕ → List Token → LStated → Type 0
 StatementTo b ts s = (s.height ≤ suc b) × LStatement s.height ts s.tree s.rest
@@ -93,20 +94,20 @@ if_sound sub b ts s sound e h =
     let (t, p, q) = bind_some (test (drop 1 ts)) (λ t. and_then (larms sub t.1) (λ a. Some (lstated (LIf (spot_of ts) t.0 a.first a.second) a.height a.rest))) s h in
     let (a, r, u) = bind_some (larms sub t.1) (λ a. Some (lstated (LIf (spot_of ts) t.0 a.first a.second) a.height a.rest)) s q in
     let c = arms_sound sub b t.1 a sound r in
-    subst (StatementTo b ts) (same _ s u) (c.low, subst (λ d. LStatement d ts (LIf (spot_of ts) t.0 a.first a.second) a.rest) (sym c.depth) (lif e (test_sound (drop 1 ts) t.0 t.1 p) c.first c.second))
+    subst (StatementTo b ts) (same_Some _ s u) (c.low, subst (λ d. LStatement d ts (LIf (spot_of ts) t.0 a.first a.second) a.rest) (sym c.depth) (lif e (test_sound (drop 1 ts) t.0 t.1 p) c.first c.second))
 
 call_sound : (b : ℕ) (ts : List Token) (s : LStated) → peek ts ≡ see.Name → lcall ts ≡ Some s → StatementTo b ts s
 unfolding StatementTo
 call_sound b ts s e h =
     let a = on_expect mark.RoundOpen 1 ts (λ rest. and_then (before mark.Semicolon (closed expression rest)) (λ a. Some (lstated (LCall (name_of ts) a.0) 1 a.1))) s h in
     let (xs, mid, r, q, t) = on_before mark.Semicolon (closed expression (drop 2 ts)) (λ a. Some (lstated (LCall (name_of ts) a.0) 1 a.1)) s a.1 in
-    subst (StatementTo b ts) (same _ s t) (omega arith, is_lcall e a.0 (closed_sound Expression expression expression_sound (drop 2 ts) xs mid r) q)
+    subst (StatementTo b ts) (same_Some _ s t) (omega arith, is_lcall e a.0 (closed_sound Expression expression expression_sound (drop 2 ts) xs mid r) q)
 
 assert_sound : (b : ℕ) (ts : List Token) (s : LStated) → peek ts ≡ see.Keyword word.Assert → and_then (before mark.Semicolon (expression (drop 1 ts))) (λ x. Some (lstated (LAssert (spot_of ts) x.0) 1 x.1)) ≡ Some s → StatementTo b ts s
 unfolding StatementTo
 assert_sound b ts s e h =
     let (y, mid, r, q, t) = on_before mark.Semicolon (expression (drop 1 ts)) (λ x. Some (lstated (LAssert (spot_of ts) x.0) 1 x.1)) s h in
-    subst (StatementTo b ts) (same _ s t) (omega arith, lassert e (expression_sound (drop 1 ts) y mid r) q)
+    subst (StatementTo b ts) (same_Some _ s t) (omega arith, lassert e (expression_sound (drop 1 ts) y mid r) q)
 
 statement_by_sound : (sub : LStatements) (b : ℕ) (ts : List Token) (s : LStated) → IsSound b sub → (f : Lookahead) → peek ts ≡ f → lstatement_by sub f ts ≡ Some s → StatementTo b ts s
 statement_by_sound sub b ts s sound see.Name e h = call_sound b ts s e h

@@ -1,6 +1,7 @@
 -- What is found is spelled: statements of procedures.
 use Rattle.std.proofs.Common.{◌≡◌, ℕ, zero, suc, ◌≤◌, max, Bool, true, false, cond, List, [], length, drop, Some, refl, sym, subst, arith}
 use Rattle.std.proofs.lemmas.Bool.{false≢true}
+use Rattle.std.proofs.lemmas.Option.{same_Some}
 use Rattle.x64_syntax.specs.declared.keywords.Keyword.TheVariants as word
 use Rattle.vale_syntax.specs.declared.token.Token.{Token}
 use Rattle.vale_syntax.specs.declared.mark.Mark.TheVariants as mark
@@ -13,7 +14,7 @@ use Rattle.vale_syntax.specs.Statements.{sts_last, Argument, Invariant, Simple, 
 use Rattle.expr_parser.specs.Reads.{expression}
 use Rattle.vale_parser.specs.Parts.{bind as and_then, is_mark, expect, before, closed, many}
 use Rattle.vale_parser.specs.Productions.{asked, is_if, is_else, is_invariant, is_decreases, sort_behind, expression_end, argument, invariant_, test, named_by, simple_by, simple, Stated, Bodied, Armed, Branches, stated, bodied, armed, branches, Statements, body, block, else_by, arms, if_at, inline_if_at, loop_at, shallow, statement_by, statement}
-use Rattle.vale_parser.proofs.Parts.{same, bind_some, peek_is, closed_sound, many_sound}
+use Rattle.vale_parser.proofs.Parts.{bind_some, peek_is, closed_sound, many_sound}
 use Rattle.vale_parser.proofs.Sound.{finish, on_asked, on_name, on_expect, on_sort, on_before, before_is, expression_sound, argument_sound, invariant_sound, test_sound}
 
 named_sound : (ts : List Token) (x : St) (rest : List Token) → peek ts ≡ see.Name → (f : Lookahead) → peek (drop 1 ts) ≡ f → named_by f ts ≡ Some (x, rest) → Simple ts x rest
@@ -70,7 +71,7 @@ body_sound sub b (suc n) d xs ts r sound k h =
     by_test : (t : Bool) → is_mark mark.BraceClose (peek ts) ≡ t
         → ((s : Stated) → max d s.height ≤ b → body sub n (sts_last xs s.tree) (max d s.height) s.rest ≡ Some r → BodyTo b (max d s.height) (sts_last xs s.tree) s.rest r)
         → cond t (Some (bodied xs d (drop 1 ts))) (and_then (sub ts) (λ s. body sub n (sts_last xs s.tree) (max d s.height) s.rest)) ≡ Some r → BodyTo b d xs ts r
-    by_test true e go h = subst (BodyTo b d xs ts) (same (bodied xs d (drop 1 ts)) r h) (record { mid = ts; low = k; spelled = ended; closes = peek_is mark.BraceClose (peek ts) e; behind = refl })
+    by_test true e go h = subst (BodyTo b d xs ts) (same_Some (bodied xs d (drop 1 ts)) r h) (record { mid = ts; low = k; spelled = ended; closes = peek_is mark.BraceClose (peek ts) e; behind = refl })
     by_test false e go h =
         let (s, p, q) = bind_some (sub ts) (λ s. body sub n (sts_last xs s.tree) (max d s.height) s.rest) r h in
         let one = sound ts s p in
@@ -95,8 +96,8 @@ else_sound sub b ts r sound h = by_test (is_else (peek ts)) refl h
     by_test true e h =
         let (l, p, q) = bind_some (block sub (drop 1 ts)) (λ b. Some (armed (arm b.trees) b.height b.rest)) r h in
         let a = block_sound sub b (drop 1 ts) l sound p in
-        subst (ElseTo b ts) (same _ r q) (a.0, present (else_is (peek ts) e) a.1)
-    by_test false e h = subst (ElseTo b ts) (same (armed no_arm 0 ts) r h) (omega arith, absent)
+        subst (ElseTo b ts) (same_Some _ r q) (a.0, present (else_is (peek ts) e) a.1)
+    by_test false e h = subst (ElseTo b ts) (same_Some (armed no_arm 0 ts) r h) (omega arith, absent)
 
 record ArmsTo (b : ℕ) (ts : List Token) (r : Branches) : Type 0 where
   first_depth : ℕ
@@ -116,7 +117,7 @@ arms_sound sub b ts r sound h =
     let c = else_sound sub b f.rest s sound t in
     let x = a.0 in
     let y = c.0 in
-    subst (ArmsTo b ts) (same _ r u) (record { first_depth = f.height; second_depth = s.height; mid = f.rest; first = a.1; second = c.1; depth = refl; low = omega (arith, x, y) })
+    subst (ArmsTo b ts) (same_Some _ r u) (record { first_depth = f.height; second_depth = s.height; mid = f.rest; first = a.1; second = c.1; depth = refl; low = omega (arith, x, y) })
 
 StatementTo : ℕ → List Token → Stated → Type 0
 StatementTo b ts s = (s.height ≤ suc b) × Statement s.height ts s.tree s.rest
@@ -127,7 +128,7 @@ if_sound sub b ts s sound e h =
     let (t, p, q) = bind_some (test (drop 1 ts)) (λ t. and_then (arms sub t.1) (λ a. Some (stated (If (spot_of ts) t.0 a.first a.second) a.height a.rest))) s h in
     let (a, r, u) = bind_some (arms sub t.1) (λ a. Some (stated (If (spot_of ts) t.0 a.first a.second) a.height a.rest)) s q in
     let c = arms_sound sub b t.1 a sound r in
-    subst (StatementTo b ts) (same _ s u) (c.low, subst (λ d. Statement d ts (If (spot_of ts) t.0 a.first a.second) a.rest) (sym c.depth) (if_ e (test_sound (drop 1 ts) t.0 t.1 p) c.first c.second))
+    subst (StatementTo b ts) (same_Some _ s u) (c.low, subst (λ d. Statement d ts (If (spot_of ts) t.0 a.first a.second) a.rest) (sym c.depth) (if_ e (test_sound (drop 1 ts) t.0 t.1 p) c.first c.second))
 
 inline_sound : (sub : Statements) (b : ℕ) (ts : List Token) (s : Stated) → IsSound b sub → peek ts ≡ see.Keyword word.Inline → inline_if_at sub (spot_of ts) (asked (is_if (peek (drop 1 ts))) (test (drop 2 ts))) ≡ Some s → StatementTo b ts s
 unfolding StatementTo
@@ -136,7 +137,7 @@ inline_sound sub b ts s sound e h =
     let g = on_asked (is_if (peek (drop 1 ts))) (test (drop 2 ts)) t p in
     let (a, r, u) = bind_some (arms sub t.1) (λ a. Some (stated (InlineIf (spot_of ts) t.0 a.first a.second) a.height a.rest)) s q in
     let c = arms_sound sub b t.1 a sound r in
-    subst (StatementTo b ts) (same _ s u) (c.low, subst (λ d. Statement d ts (InlineIf (spot_of ts) t.0 a.first a.second) a.rest) (sym c.depth) (inline_if e (if_is (peek (drop 1 ts)) g.0) (test_sound (drop 2 ts) t.0 t.1 g.1) c.first c.second))
+    subst (StatementTo b ts) (same_Some _ s u) (c.low, subst (λ d. Statement d ts (InlineIf (spot_of ts) t.0 a.first a.second) a.rest) (sym c.depth) (inline_if e (if_is (peek (drop 1 ts)) g.0) (test_sound (drop 2 ts) t.0 t.1 g.1) c.first c.second))
 
 while_sound : (sub : Statements) (b : ℕ) (ts : List Token) (s : Stated) → IsSound b sub → peek ts ≡ see.Keyword word.While → and_then (test (drop 1 ts)) (loop_at sub (spot_of ts)) ≡ Some s → StatementTo b ts s
 unfolding StatementTo
@@ -150,7 +151,7 @@ while_sound sub b ts s sound e h =
     let (c, i, j, k) = before_is mark.Semicolon (expression (drop 1 is.1)) m.0 m.1 g.1 in
     let blk = block_sound sub b m.1 l sound x in
     let low = blk.0 in
-    subst (StatementTo b ts) (same _ s y) (
+    subst (StatementTo b ts) (same_Some _ s y) (
       omega (arith, low),
       while_ e (test_sound (drop 1 ts) t.0 t.1 p) (many_sound Invariant invariant_ invariant_sound is_invariant (length t.1) [] t.1 is.0 is.1 r) (decreases_is (peek is.1) g.0)
           (expression_sound (drop 1 is.1) m.0 c i) j (subst (λ z. Block l.height z l.trees l.rest) (sym k) blk.1),
@@ -160,7 +161,7 @@ simple_statement : (sub : Statements) (b : ℕ) (ts : List Token) (s : Stated) �
 unfolding StatementTo simple
 simple_statement sub b ts s h =
     let (x, p, q) = bind_some (simple ts) (λ x. Some (stated x.0 1 x.1)) s h in
-    subst (StatementTo b ts) (same _ s q) (omega arith, is_simple (simple_sound ts x.0 x.1 (peek ts) refl p))
+    subst (StatementTo b ts) (same_Some _ s q) (omega arith, is_simple (simple_sound ts x.0 x.1 (peek ts) refl p))
 
 statement_by_sound : (sub : Statements) (b : ℕ) (ts : List Token) (s : Stated) → IsSound b sub → (f : Lookahead) → peek ts ≡ f → statement_by sub f ts ≡ Some s → StatementTo b ts s
 statement_by_sound sub b ts s sound (see.Keyword word.If) e h = if_sound sub b ts s sound e h

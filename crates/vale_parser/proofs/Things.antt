@@ -2,6 +2,8 @@
 use Rattle.std.proofs.Common.{◌≡◌, ℕ, zero, suc, Bool, true, false, cond, List, [], ◌∷◌, ◌++◌, map, length, drop, Option, Some, None, refl, sym, ◌∙◌, ap}
 use Rattle.std.specs.Prelude.{Result, Ok, Err}
 use Rattle.std.proofs.lemmas.List.{map-append, map-id}
+use Rattle.std.proofs.lemmas.Option.{same_Some}
+use Rattle.x64_syntax.proofs.Lists.{same_head, same_tail}
 use Rattle.vale_syntax.specs.declared.token.Token.{Token}
 use Rattle.vale_syntax.specs.declared.mark.Mark.TheVariants as mark
 use Rattle.vale_syntax.specs.declared.lookahead.Lookahead.{Lookahead}
@@ -70,10 +72,7 @@ back : {A C : Type 0} (f : A → Thing) (h : C → A) → ((a b : A) → f a ≡
 back f h inj [] [] e = refl
 back f h inj [] (c ∷ cs) e = absurd cc
 back f h inj (x ∷ xs) [] e = absurd cc
-back f h inj (x ∷ xs) (c ∷ cs) e = let p = heads _ _ _ _ e in ap (λ y. y ∷ xs) (inj x (h c) p.0) ∙ ap (λ l. h c ∷ l) (back f h inj xs cs p.1)
-  where
-    heads : (s t : Thing) (ss us : List Thing) → s ∷ ss ≡ t ∷ us → (s ≡ t) × (ss ≡ us)
-    heads s t ss us e = (cc, cc)
+back f h inj (x ∷ xs) (c ∷ cs) e = ap (λ y. y ∷ xs) (inj x (h c) (same_head e)) ∙ ap (λ l. h c ∷ l) (back f h inj xs cs (same_tail e))
 
 -- what gives the things gives what they are
 pub untagged : {X A C : Type 0} (f : A → Thing) (h : C → A) (r : Result X PartFault) (parts : X → List C) (rest : X → List Token) (o : Option (List A × List Token)) (t : Option (List Thing × List Token))
@@ -81,11 +80,8 @@ pub untagged : {X A C : Type 0} (f : A → Thing) (h : C → A) (r : Result X Pa
 unfolding as_things
 untagged f h (Ok x) parts rest None t inj e k = absurd cc
 untagged f h (Ok x) parts rest (Some q) t inj e k =
-    let pair = inside (map f q.0, q.1) (map (λ c. f (h c)) (parts x), rest x) (sym e ∙ k) in
+    let pair = same_Some (map f q.0, q.1) (map (λ c. f (h c)) (parts x), rest x) (sym e ∙ k) in
     ap (λ l. Some (l, q.1)) (back f h inj q.0 (parts x) (ap (λ (p : List Thing × List Token). p.0) pair)) ∙ ap (λ l. Some (map h (parts x), l)) (ap (λ (p : List Thing × List Token). p.1) pair)
-  where
-    inside : (p q : List Thing × List Token) → Some p ≡ Some q → p ≡ q
-    inside p q h = cc
 untagged f h (Err NotAPart) parts rest None t inj e k = refl
 untagged f h (Err NotAPart) parts rest (Some q) t inj e k = absurd cc
 untagged f h (Err NoMemory) parts rest o t inj e k = tt

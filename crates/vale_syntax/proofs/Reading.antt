@@ -1,5 +1,6 @@
 -- What is read is what the tokens spell, and they spell nothing else.
 use Rattle.std.proofs.Common.{◌≡◌, ℕ, ◌≤◌, max, List, [], ◌∷◌, Some, refl, sym, ◌∙◌, ap, subst, arith}
+use Rattle.std.proofs.lemmas.Option.{same_Some}
 use Rattle.vale_syntax.specs.declared.token.Token.{Token}
 use Rattle.vale_syntax.specs.Operators.{any}
 use Rattle.vale_syntax.specs.Peek.{peek}
@@ -7,14 +8,14 @@ use Rattle.vale_syntax.specs.Trees.{Ex}
 use Rattle.vale_syntax.specs.Expressions.{Spells, depth_limit, IsExpr}
 use Rattle.vale_syntax.specs.Parse.{Got, got, ◌>>=◌, parse, whole_by, read}
 use Rattle.vale_syntax.proofs.Complete.{loose, found}
-use Rattle.vale_syntax.proofs.Sound.{same, bind_some, sound}
+use Rattle.vale_syntax.proofs.Sound.{bind_some, sound}
 
 end_found : {d : ℕ} {ts : List Token} {x : Ex} → Spells any d ts x [] → (b : ℕ) → d ≤ b → parse b any ts ≡ Some (got x d [])
 unfolding loose peek
 end_found h b k = found h b k (omega arith)
 
 whole_is : (x y : Ex) (ts : List Token) → whole_by x ts ≡ Some y → (ts ≡ []) × (x ≡ y)
-whole_is x y [] h = (refl, same x y h)
+whole_is x y [] h = (refl, same_Some x y h)
 whole_is x y (t ∷ ts) h = absurd cc
 
 pub read_is : (ts : List Token) (x : Ex) → read ts ≡ Some x → IsExpr ts x
@@ -33,5 +34,5 @@ pub one_tree : (d e : ℕ) (ts : List Token) (x y : Ex) → Spells any d ts x []
 one_tree d e ts x y h k =
     let p = end_found h (max d e) (omega arith) in
     let q = end_found k (max d e) (omega arith) in
-    let r = same (got x d []) (got y e []) (sym p ∙ q) in
+    let r = same_Some (got x d []) (got y e []) (sym p ∙ q) in
     (ap (λ (g : Got). g.tree) r, ap (λ (g : Got). g.height) r)

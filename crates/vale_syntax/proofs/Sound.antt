@@ -2,6 +2,7 @@
 use Rattle.std.proofs.Common.{◌≡◌, ℕ, zero, suc, ◌≤◌, max, Bool, true, false, cond, List, drop, length, Option, Some, None, refl, sym, ◌∙◌, ap, subst, arith}
 use Rattle.std.specs.Prelude.{◌==◌, nat_le, ℤ, neg_ℤ}
 use Rattle.std.proofs.lemmas.Bool.{leb-true, eqb-true}
+use Rattle.std.proofs.lemmas.Option.{same_Some}
 use Rattle.vale_syntax.specs.declared.token.Token.{Token}
 use Rattle.vale_syntax.specs.declared.spot.Spot.{Spot}
 use Rattle.vale_syntax.specs.declared.mark.Mark.TheVariants as mark
@@ -15,9 +16,6 @@ use Rattle.vale_syntax.specs.Peek.{peek, spot_of}
 use Rattle.vale_syntax.specs.Trees.{Ex, Exs, none, more, with_last, Int, Call, Index, Unary, Binary}
 use Rattle.vale_syntax.specs.Expressions.{name_of, leaf, negated, Spells, not_, negative, minus, postfix, operations, Chain, chain_end, operation, Indexed, index_end, index, Atom, token, call, brackets, Arguments, nothing, some, Others, others_end, next as Others_next}
 use Rattle.vale_syntax.specs.Parse.{Got, GotList, got, got_list, ◌>>=◌, operator, Parser, alone, bracketed, under, squared, others_by, others, arguments_by, arguments, named_by, atom_by, atom, indexed_by, indexed, minus_by, unary_by, unary, chain_by, chain, ranked, parse}
-
-pub same : {A : Type 0} (x y : A) → Some x ≡ Some y → x ≡ y
-same x y h = cc
 
 pub bind_some : {A B : Type 0} (o : Option A) (f : A → Option B) (y : B) → (o >>= f) ≡ Some y → (x : A) × (o ≡ Some x) × (f x ≡ Some y)
 bind_some (Some x) f y h = (x, refl, h)
@@ -49,7 +47,7 @@ operator_is : (r : ℕ) (f : Lookahead) (o : BinaryOp) → operator r f ≡ Some
 operator_is r (see.Mark (mark.Binary p)) o h = by_test (rank_of p == r) refl h
   where
     by_test : (t : Bool) → (rank_of p == r) ≡ t → cond t (Some p) None ≡ Some o → (see.Mark (mark.Binary p) ≡ see.Mark (mark.Binary o)) × (rank_of o ≡ r)
-    by_test true e h = let q = same p o h in (ap (λ o. see.Mark (mark.Binary o)) q, ap rank_of (sym q) ∙ eqb-true _ _ e)
+    by_test true e h = let q = same_Some p o h in (ap (λ o. see.Mark (mark.Binary o)) q, ap rank_of (sym q) ∙ eqb-true _ _ e)
     by_test false e h = absurd cc
 operator_is r _ o h = absurd cc
 
@@ -58,7 +56,7 @@ squared_is (see.Mark mark.SquareClose) o g h = (refl, h)
 squared_is _ o g h = absurd cc
 
 bracketed_is : (f : Lookahead) (y g : Got) → bracketed f y ≡ Some g → (f ≡ see.Mark mark.RoundClose) × (got y.tree (suc y.height) (drop 1 y.rest) ≡ g)
-bracketed_is (see.Mark mark.RoundClose) y g h = (refl, same _ g h)
+bracketed_is (see.Mark mark.RoundClose) y g h = (refl, same_Some _ g h)
 bracketed_is _ y g h = absurd cc
 
 -- an operation, and what follows it
@@ -80,12 +78,12 @@ chain_step sub b r s d x ts g go sound k next h = by_operator (operator r (peek 
         (rest.0, operation o i.0 i.1 part.1 rest.1)
 
     by_operator : (o : Option BinaryOp) → operator r (peek ts) ≡ o → chain_by o b (got x d ts) (λ o. sub (right_of o) (drop 1 ts) >>= go o) ≡ Some g → ChainTo b r s d x ts g
-    by_operator None e h = subst (ChainTo b r s d x ts) (same (got x d ts) g h) (k, chain_end)
+    by_operator None e h = subst (ChainTo b r s d x ts) (same_Some (got x d ts) g h) (k, chain_end)
     by_operator (Some o) e h = by_room o (nat_le d b) e refl h
 
 chain_sound : (sub : Parser) (b n r : ℕ) (s : Spot) (d : ℕ) (x : Ex) (ts : List Token) (g : Got) → IsSound b sub → d ≤ suc b → chain sub b n r s (got x d ts) ≡ Some g → ChainTo b r s d x ts g
 unfolding chain ChainTo
-chain_sound sub b zero r s d x ts g sound k h = subst (ChainTo b r s d x ts) (same (got x d ts) g h) (k, chain_end)
+chain_sound sub b zero r s d x ts g sound k h = subst (ChainTo b r s d x ts) (same_Some (got x d ts) g h) (k, chain_end)
 chain_sound sub b (suc n) r s d x ts g sound k h =
     chain_step sub b r s d x ts g (λ o y. chain sub b n (again_of o) s (got (Binary s o x y.tree) (suc (max d y.height)) y.rest)) sound k
     (λ o y l e. chain_sound sub b n (again_of o) s (suc (max d y.height)) (Binary s o x y.tree) y.rest g sound l e) h
@@ -106,11 +104,11 @@ index_step sub b s d x ts g go sound k next (see.Mark mark.SquareOpen) e h = by_
         let n = part.0 in
         let rest = next y (omega (arith, m, n)) i.1 in
         (rest.0, index e part.1 i.0 rest.1)
-index_step sub b s d x ts g go sound k next _ e h = subst (IndexedTo b s d x ts) (same (got x d ts) g h) (k, index_end)
+index_step sub b s d x ts g go sound k next _ e h = subst (IndexedTo b s d x ts) (same_Some (got x d ts) g h) (k, index_end)
 
 indexed_sound : (sub : Parser) (b n : ℕ) (s : Spot) (d : ℕ) (x : Ex) (ts : List Token) (g : Got) → IsSound b sub → d ≤ suc b → indexed sub b n s (got x d ts) ≡ Some g → IndexedTo b s d x ts g
 unfolding indexed IndexedTo
-indexed_sound sub b zero s d x ts g sound k h = subst (IndexedTo b s d x ts) (same (got x d ts) g h) (k, index_end)
+indexed_sound sub b zero s d x ts g sound k h = subst (IndexedTo b s d x ts) (same_Some (got x d ts) g h) (k, index_end)
 indexed_sound sub b (suc n) s d x ts g sound k h =
     index_step sub b s d x ts g (λ y. indexed sub b n s (got (Index s x y.tree) (suc (max d y.height)) (drop 1 y.rest))) sound k
     (λ y l e. indexed_sound sub b n s (suc (max d y.height)) (Index s x y.tree) (drop 1 y.rest) g sound l e) (peek ts) refl h
@@ -119,7 +117,7 @@ others_step : (sub : Parser) (b d : ℕ) (xs : Exs) (ts : List Token) (g : GotLi
     → ((y : Got) → max d y.height ≤ b → go y ≡ Some g → OthersTo b (max d y.height) (with_last xs y.tree) y.rest g)
     → (f : Lookahead) → peek ts ≡ f → others_by f xs d ts (sub any (drop 1 ts) >>= go) ≡ Some g → OthersTo b d xs ts g
 unfolding IsSound OthersTo
-others_step sub b d xs ts g go sound k next (see.Mark mark.RoundClose) e h = subst (OthersTo b d xs ts) (same (got_list xs d (drop 1 ts)) g h) (k, others_end e)
+others_step sub b d xs ts g go sound k next (see.Mark mark.RoundClose) e h = subst (OthersTo b d xs ts) (same_Some (got_list xs d (drop 1 ts)) g h) (k, others_end e)
 others_step sub b d xs ts g go sound k next (see.Mark mark.Comma) e h =
     let (y, p, q) = bind_some (sub any (drop 1 ts)) go g h in
     let part = sound any (drop 1 ts) y p in
@@ -137,7 +135,7 @@ others_sound sub b (suc n) d xs ts g sound k h =
 
 arguments_sound : (sub : Parser) (b : ℕ) (ts : List Token) (g : GotList) → IsSound b sub → (f : Lookahead) → peek ts ≡ f → arguments_by sub f ts ≡ Some g → ArgumentsTo b ts g
 unfolding IsSound ArgumentsTo OthersTo
-arguments_sound sub b ts g sound (see.Mark mark.RoundClose) e h = subst (ArgumentsTo b ts) (same (got_list none 0 (drop 1 ts)) g h) (omega arith, nothing e)
+arguments_sound sub b ts g sound (see.Mark mark.RoundClose) e h = subst (ArgumentsTo b ts) (same_Some (got_list none 0 (drop 1 ts)) g h) (omega arith, nothing e)
 arguments_sound sub b ts g sound _ e h =
     let (y, p, q) = bind_some (sub any ts) (λ y. others sub (length ts) (more y.tree none) y.height y.rest) g h in
     let part = sound any ts y p in
@@ -147,7 +145,7 @@ arguments_sound sub b ts g sound _ e h =
 alone_sound : (b : ℕ) (ts : List Token) (g : Got) (o : Option Ex) → leaf ts ≡ o → alone o ts ≡ Some g → AtomTo b ts g
 unfolding AtomTo
 alone_sound b ts g None e h = absurd cc
-alone_sound b ts g (Some x) e h = subst (AtomTo b ts) (same (got x 1 (drop 1 ts)) g h) (omega arith, token e)
+alone_sound b ts g (Some x) e h = subst (AtomTo b ts) (same_Some (got x 1 (drop 1 ts)) g h) (omega arith, token e)
 
 named_sound : (sub : Parser) (b : ℕ) (ts : List Token) (g : Got) → IsSound b sub → peek ts ≡ see.Name → (f : Lookahead) → peek (drop 1 ts) ≡ f → named_by sub f ts ≡ Some g → AtomTo b ts g
 unfolding AtomTo ArgumentsTo arguments
@@ -155,7 +153,7 @@ named_sound sub b ts g sound p (see.Mark mark.RoundOpen) e h =
     let (y, q, i) = bind_some (arguments sub (drop 2 ts)) (λ y. Some (got (Call (name_of ts) y.trees) (suc y.height) y.rest)) g h in
     let args = arguments_sound sub b (drop 2 ts) y sound (peek (drop 2 ts)) refl q in
     let n = args.0 in
-    subst (AtomTo b ts) (same (got (Call (name_of ts) y.trees) (suc y.height) y.rest) g i) (omega (arith, n), call p e args.1)
+    subst (AtomTo b ts) (same_Some (got (Call (name_of ts) y.trees) (suc y.height) y.rest) g i) (omega (arith, n), call p e args.1)
 named_sound sub b ts g sound p _ e h = alone_sound b ts g (leaf ts) refl h
 
 atom_sound : (sub : Parser) (b : ℕ) (ts : List Token) (g : Got) → IsSound b sub → (f : Lookahead) → peek ts ≡ f → atom_by sub f ts ≡ Some g → AtomTo b ts g
@@ -171,12 +169,12 @@ atom_sound sub b ts g sound _ e h = alone_sound b ts g (leaf ts) refl h
 
 minus_sound : (sub : Parser) (b : ℕ) (ts : List Token) (g : Got) → IsSound b sub → peek ts ≡ see.Mark (mark.Binary Sub) → (o : Option ℤ) → negated ts ≡ o → minus_by sub o ts ≡ Some g → UnaryTo b ts g
 unfolding UnaryTo IsSound
-minus_sound sub b ts g sound e (Some z) i h = subst (UnaryTo b ts) (same (got (Int (spot_of ts) (neg_ℤ z)) 1 (drop 2 ts)) g h) (omega arith, negative e i)
+minus_sound sub b ts g sound e (Some z) i h = subst (UnaryTo b ts) (same_Some (got (Int (spot_of ts) (neg_ℤ z)) 1 (drop 2 ts)) g h) (omega arith, negative e i)
 minus_sound sub b ts g sound e None i h =
     let (y, p, q) = bind_some (sub 0 (drop 1 ts)) (under (spot_of ts) Neg) g h in
     let part = sound 0 (drop 1 ts) y p in
     let n = part.0 in
-    subst (UnaryTo b ts) (same (got (Unary (spot_of ts) Neg y.tree) (suc y.height) y.rest) g q) (omega (arith, n), minus e i part.1)
+    subst (UnaryTo b ts) (same_Some (got (Unary (spot_of ts) Neg y.tree) (suc y.height) y.rest) g q) (omega (arith, n), minus e i part.1)
 
 unary_sound : (sub : Parser) (b : ℕ) (ts : List Token) (g : Got) → IsSound b sub → (f : Lookahead) → peek ts ≡ f → unary_by sub b f ts ≡ Some g → UnaryTo b ts g
 unfolding UnaryTo AtomTo IndexedTo IsSound atom
@@ -184,7 +182,7 @@ unary_sound sub b ts g sound (see.Mark mark.Bang) e h =
     let (y, p, q) = bind_some (sub 0 (drop 1 ts)) (under (spot_of ts) Not) g h in
     let part = sound 0 (drop 1 ts) y p in
     let n = part.0 in
-    subst (UnaryTo b ts) (same (got (Unary (spot_of ts) Not y.tree) (suc y.height) y.rest) g q) (omega (arith, n), not_ e part.1)
+    subst (UnaryTo b ts) (same_Some (got (Unary (spot_of ts) Not y.tree) (suc y.height) y.rest) g q) (omega (arith, n), not_ e part.1)
 unary_sound sub b ts g sound (see.Mark (mark.Binary Sub)) e h = minus_sound sub b ts g sound e (negated ts) refl h
 unary_sound sub b ts g sound _ e h =
     let (y, p, q) = bind_some (atom sub ts) (indexed sub b (suc b) (spot_of ts)) g h in

@@ -2,6 +2,7 @@
 use Rattle.std.proofs.Common.{◌≡◌, ℕ, zero, suc, ◌^◌, ◌<◌, Bool, true, false, cond, List, [], ◌∷◌, drop, Option, Some, None, inl, inr, refl, sym, subst}
 use Rattle.std.specs.Prelude.{ℤ, pos, negsuc, nat_abs, neg_ℤ, nat_lt}
 use Rattle.std.proofs.lemmas.Bool.{ltb-true}
+use Rattle.std.proofs.lemmas.Option.{same_Some}
 use Rattle.x64_syntax.specs.declared.keywords.Keyword.{Keyword}
 use Rattle.x64_syntax.specs.declared.keywords.Keyword.TheVariants as word
 use Rattle.x64_syntax.specs.Words.{is_name_text, keyword_of}
@@ -27,11 +28,8 @@ drop_proper (suc n) (t ∷ ts) h = drop_proper n ts h.1
 whole_small : (n : ℕ) (z : ℤ) → whole n ≡ Some z → nat_abs z < 2 ^ 127
 whole_small n z h = by_test (nat_lt n (2 ^ 127)) refl h
   where
-    same : (y z : ℤ) → Some y ≡ Some z → y ≡ z
-    same y z h = cc
-
     by_test : (t : Bool) → nat_lt n (2 ^ 127) ≡ t → cond t (Some (pos n)) None ≡ Some z → nat_abs z < 2 ^ 127
-    by_test true e h = subst (λ y. nat_abs y < 2 ^ 127) (same (pos n) z h) (ltb-true n (2 ^ 127) e)
+    by_test true e h = subst (λ y. nat_abs y < 2 ^ 127) (same_Some (pos n) z h) (ltb-true n (2 ^ 127) e)
     by_test false e h = absurd cc
 
 neg_abs : (z : ℤ) → nat_abs (neg_ℤ z) ≡ nat_abs z
@@ -48,34 +46,31 @@ negated_small : (ts : List Token) (z : ℤ) → negated ts ≡ Some z → nat_ab
 unfolding negated
 negated_small ts z h = subst (λ n. n < 2 ^ 127) (sym (neg_abs z)) (counted_whole (peek (drop 1 ts)) (peek (drop 2 ts)) z h)
 
-same_some : {A : Type 0} (x y : A) → Some x ≡ Some y → x ≡ y
-same_some x y h = cc
-
 keyword_writable : (k : Keyword) (ts : List Token) (x : Ex) → leaf_by (see.Keyword k) ts ≡ Some x → IsWritable x
 unfolding IsWritable
-keyword_writable word.True ts x h = subst IsWritable (same_some _ x h) tt
-keyword_writable word.False ts x h = subst IsWritable (same_some _ x h) tt
-keyword_writable word.Prev ts x h = subst IsWritable (same_some _ x h) tt
+keyword_writable word.True ts x h = subst IsWritable (same_Some _ x h) tt
+keyword_writable word.False ts x h = subst IsWritable (same_Some _ x h) tt
+keyword_writable word.Prev ts x h = subst IsWritable (same_Some _ x h) tt
 keyword_writable _ ts x h = absurd cc
 
 name_writable : (k : Option Keyword) (ts : List Token) (x : Ex) → keyword_of (text_of ts) ≡ k → is_name_text (text_of ts) ≡ true → leaf_by (named k) ts ≡ Some x → IsWritable x
 unfolding IsWritable
-name_writable None ts x e p h = subst IsWritable (same_some _ x h) (inl (record { is_name = p; no_keyword = e }))
+name_writable None ts x e p h = subst IsWritable (same_Some _ x h) (inl (record { is_name = p; no_keyword = e }))
 name_writable (Some k) ts x e p h = keyword_writable k ts x h
 
 int_writable : (s : Spot) (n : ℕ) (o : Option ℤ) (x : Ex) → whole n ≡ o → whole_at s o ≡ Some x → IsWritable x
 unfolding IsWritable
 int_writable s n None x e h = absurd cc
-int_writable s n (Some z) x e h = subst IsWritable (same_some _ x h) (whole_small n z e)
+int_writable s n (Some z) x e h = subst IsWritable (same_Some _ x h) (whole_small n z e)
 
 -- a token that is an expression by itself
 kind_writable : (k : TokenKind) (ts : List Token) (x : Ex) → leaf_by (of_kind k (text_of ts)) ts ≡ Some x → IsProper k (text_of ts) → IsWritable x
 unfolding IsWritable IsProper
 kind_writable kind.Name ts x h p = name_writable (keyword_of (text_of ts)) ts x refl p h
-kind_writable kind.Stamped ts x h p = subst IsWritable (same_some _ x h) (inr p)
+kind_writable kind.Stamped ts x h p = subst IsWritable (same_Some _ x h) (inr p)
 kind_writable (kind.Int n) ts x h p = int_writable _ n (whole n) x refl h
-kind_writable (kind.Word n) ts x h p = subst IsWritable (same_some _ x h) p
-kind_writable (kind.Wide n) ts x h p = subst IsWritable (same_some _ x h) p
+kind_writable (kind.Word n) ts x h p = subst IsWritable (same_Some _ x h) p
+kind_writable (kind.Wide n) ts x h p = subst IsWritable (same_Some _ x h) p
 kind_writable (kind.Mark m) ts x h p = absurd cc
 
 leaf_writable : (ts : List Token) (x : Ex) → leaf ts ≡ Some x → AreProper ts → IsWritable x

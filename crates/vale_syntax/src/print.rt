@@ -7,9 +7,8 @@ ghost use Rattle.vale_syntax.specs.Print.{binary_text, unary_text, is_operand, s
 use crate::expr::Expr;
 use crate::laws::printed_as_spelled;
 use crate::mark::{BinaryOp, UnaryOp};
-use itoa::{Buffer, Integer};
 use std::alloc::{AllocError as NoMemory, Global};
-use x64_syntax::Text;
+use x64_syntax::{Text, push, push_number};
 
 /// The text of an expression. Operators have blanks around them, and brackets group what isn't an operand by itself. Its
 /// tokens spell the expression, so reading the text gives it back but for the places of its nodes, where it is no deeper
@@ -156,20 +155,7 @@ fn is_operand(e: &Expr) -> bool
     }
 }
 
-fn push_number<I: Integer>(out: &mut Vec<u8>, value: I) -> Result<(), NoMemory>
-    ensures { OnOk result (out.new.items ≡ out.old.items ++ I.text value) }
-{
-    let mut buffer = Buffer::new();
-    out.extend_from_slice(buffer.format(value).as_bytes())
-}
-
 fn push_text(out: &mut Vec<u8>, text: &Text) -> Result<(), NoMemory>
-    ensures { OnOk result (out.new.items ≡ out.old.items ++ text.now) }
-{
-    out.extend_from_slice(text.as_bytes())
-}
-
-fn push(out: &mut Vec<u8>, text: &str) -> Result<(), NoMemory>
     ensures { OnOk result (out.new.items ≡ out.old.items ++ text.now) }
 {
     out.extend_from_slice(text.as_bytes())

@@ -4,6 +4,7 @@ use Rattle.std.specs.Str.Parse.{digits_value}
 use Rattle.std.proofs.lemmas.Bool.{and_parts}
 use Rattle.std.proofs.lemmas.Fmt.{decimal_is_IsNumeral_wide}
 use Rattle.std.proofs.lemmas.List.{append-nil}
+use Rattle.std.proofs.lemmas.Option.{same_Some}
 use Rattle.hex.specs.Hex.{decode_of, IsBytes}
 use Rattle.hex.proofs.HexLemmas.{decode_of-encode_lower}
 use Rattle.x64_syntax.specs.declared.places.Reg.{Reg as GeneralReg}
@@ -17,10 +18,10 @@ use Rattle.x64_syntax.specs.declared.places.Place.TheVariants.{Reg, Xmm, Flag}
 use Rattle.x64_syntax.specs.Places.{place_name, reg_name, xmm_name, flag_name, reg_of, xmm_of, flag_of}
 use Rattle.x64_blocks.specs.Memory.{Range}
 use Rattle.x64_meaning.specs.State.{State}
-use Rattle.code_lower.proofs.First.{some_is}
+use Rattle.x64_syntax.proofs.Lists.{same_head, same_tail}
 use Rattle.x64_evaluator.specs.StateFile.{Setting, Value, Block, setting_text, range_text, bytes_text, are_bytes, fits, may_follow, allowed, IsStateOf, StopsAt}
 use Rattle.x64_evaluator.proofs.PlaceNames.{no_block}
-use Rattle.x64_evaluator.proofs.Texts.{cut_same, few_digits, head_is, tail_is}
+use Rattle.x64_evaluator.proofs.Texts.{cut_same, few_digits}
 use Rattle.x64_evaluator.proofs.Taken.{small, some_items, same_ok, range_base, range_bytes, base_blankless}
 use Rattle.x64_evaluator.proofs.Lines.{word_blankless, value_fits, range_fits}
 
@@ -80,7 +81,7 @@ named_back (Xmm x) = xmm_back x
 named_back (Flag f) = flag_back f
 
 same_place : (p q : Place) → place_name p ≡ place_name q → p ≡ q
-same_place p q e = some_is (sym (named_back p) ∙ ap place_of e ∙ named_back q)
+same_place p q e = same_Some _ _ (sym (named_back p) ∙ ap place_of e ∙ named_back q)
 
 same_number : (m n : ℕ) → m < 2 ^ 128 → n < 2 ^ 128 → decimal m ≡ decimal n → m ≡ n
 same_number m n lt lt' e =
@@ -131,24 +132,24 @@ module _ (l k : List ℕ) (ls ks : List (List ℕ)) where
   one_length : (before ss ts : List Setting) → allowed before ss ≡ true → allowed before ts ≡ true → map setting_text ss ++ l ∷ ls ≡ map setting_text ts ++ k ∷ ks → NoneMay (before ++ ss) l → NoneMay (before ++ ts) k → length ss ≡ length ts
   one_length before [] [] h g e none none' = refl
   one_length before [] (t ∷ ts) h g e none none' =
-      absurd (none t (sym (head_is e)) (ap (λ b. may_follow b t) (append-nil before) ∙ follows before t ts g))
+      absurd (none t (sym (same_head e)) (ap (λ b. may_follow b t) (append-nil before) ∙ follows before t ts g))
   one_length before (s ∷ ss) [] h g e none none' =
-      absurd (none' s (head_is e) (ap (λ b. may_follow b s) (append-nil before) ∙ follows before s ss h))
+      absurd (none' s (same_head e) (ap (λ b. may_follow b s) (append-nil before) ∙ follows before s ss h))
   one_length before (s ∷ ss) (t ∷ ts) h g e none none' =
-      let same = same_setting s t (fitting before s (follows before s ss h)) (fitting before t (follows before t ts g)) (head_is e) in
+      let same = same_setting s t (fitting before s (follows before s ss h)) (fitting before t (follows before t ts g)) (same_head e) in
       let rest = one_length (before ++ s ∷ []) ss ts (and_parts (may_follow before s) _ h).1
-      (ap (λ x. allowed (before ++ x ∷ []) ts) same ∙ (and_parts (may_follow before t) _ g).1) (tail_is e)
+      (ap (λ x. allowed (before ++ x ∷ []) ts) same ∙ (and_parts (may_follow before t) _ g).1) (same_tail e)
       (nearer before s ss l none) (nearer before s ts k (λ u is f. none' u is (ap (λ x. may_follow (before ++ x ∷ ts) u) (sym same) ∙ f))) in
       omega (arith, rest)
 
   no_line : (before ss ts : List Setting) → allowed before ss ≡ true → allowed before ts ≡ true → map setting_text ss ≡ map setting_text ts ++ k ∷ ks → NoneMay (before ++ ts) k → ⊥
   no_line before [] [] h g e none = absurd cc
   no_line before [] (t ∷ ts) h g e none = absurd cc
-  no_line before (s ∷ ss) [] h g e none = none s (head_is e) (ap (λ b. may_follow b s) (append-nil before) ∙ follows before s ss h)
+  no_line before (s ∷ ss) [] h g e none = none s (same_head e) (ap (λ b. may_follow b s) (append-nil before) ∙ follows before s ss h)
   no_line before (s ∷ ss) (t ∷ ts) h g e none =
-      let same = same_setting s t (fitting before s (follows before s ss h)) (fitting before t (follows before t ts g)) (head_is e) in
+      let same = same_setting s t (fitting before s (follows before s ss h)) (fitting before t (follows before t ts g)) (same_head e) in
       no_line (before ++ s ∷ []) ss ts (and_parts (may_follow before s) _ h).1
-      (ap (λ x. allowed (before ++ x ∷ []) ts) same ∙ (and_parts (may_follow before t) _ g).1) (tail_is e)
+      (ap (λ x. allowed (before ++ x ∷ []) ts) same ∙ (and_parts (may_follow before t) _ g).1) (same_tail e)
       (nearer before s ts k (λ u is f. none u is (ap (λ x. may_follow (before ++ x ∷ ts) u) (sym same) ∙ f)))
 
 pub one_stop : (lines : List (List ℕ)) (m n : ℕ) → StopsAt lines m → StopsAt lines n → m ≡ n

@@ -2,11 +2,12 @@
 use Rattle.std.proofs.Common.{◌≡◌, ℕ, zero, suc, ◌+◌, ◌-◌, ◌<◌, ◌≤◌, true, List, [], ◌∷◌, Some, None, sym, ap, ◌∙◌, arith, ◌⊎◌, inl, inr}
 use Rattle.std.specs.Prelude.{slice_get, position}
 use Rattle.std.proofs.lemmas.Bool.{cases_lt}
+use Rattle.std.proofs.lemmas.Option.{same_Some}
 use Rattle.x64_syntax.specs.declared.items.Item.{Item}
 use Rattle.x64_syntax.specs.declared.items.Item.TheVariants.{Label}
 use Rattle.x64_syntax.specs.Programs.{labels_from}
 use Rattle.x64_meaning.specs.Run.{is_label}
-use Rattle.code_lower.proofs.First.{Passes, Fails, first, position_none, some_is}
+use Rattle.code_lower.proofs.First.{Passes, Fails, first, position_none}
 use Rattle.code_lower.proofs.Leads.{found, label_is}
 use Rattle.code_lower.proofs.Program.{tail_of, at_label_is, no_less, differ_from}
 use Rattle.x64_evaluator.specs.Places.{OnlyAbove}
@@ -15,7 +16,7 @@ rising : (k : ℕ) (xs : List Item) → labels_from k xs ≡ true → (l m i j :
 rising k [] h l m i j lt e f = absurd cc
 rising k (x ∷ xs) h l m i zero lt e f = absurd (omega (arith, lt))
 rising k (x ∷ xs) h l m zero (suc j) lt e f =
-    let a = at_label_is k l x xs (some_is e) h in
+    let a = at_label_is k l x xs (same_Some _ _ e) h in
     let same = a.0 in
     let more = no_less (k + 1) xs a.1 m j f in
     omega (arith, same, more)
@@ -59,7 +60,7 @@ module _ (items : List Item) (order : labels_from 0 items ≡ true) (label : ℕ
           by_side (inr le) = by_side_of (cases_lt j k)
             where
               same : k ≤ j → l ≡ label
-              same ge = let at : j ≡ k = omega (arith, le, ge) in label_number (some_is (sym h ∙ ap (λ n. slice_get items n) (sym at) ∙ e))
+              same ge = let at : j ≡ k = omega (arith, le, ge) in label_number (same_Some _ _ (sym h ∙ ap (λ n. slice_get items n) (sym at) ∙ e))
 
               by_side_of : (j < k) ⊎ (k ≤ j) → ⊥
               by_side_of (inl lt) = let up = rising 0 items order label l j k lt e h in absurd (omega (arith, up, less))
@@ -70,7 +71,7 @@ one_more : (items : List Item) (label at : ℕ) (x : Item) → 0 < at → slice_
 one_more items label at x some_ here above rest k l le h = by (cases_lt k at)
   where
     by : (k < at) ⊎ (at ≤ k) → label < l
-    by (inl lt) = let same : at - 1 ≡ k = omega (arith, le, lt) in above l (some_is (sym here ∙ ap (λ n. slice_get items n) same ∙ h))
+    by (inl lt) = let same : at - 1 ≡ k = omega (arith, le, lt) in above l (same_Some _ _ (sym here ∙ ap (λ n. slice_get items n) same ∙ h))
     by (inr ge) = rest k l ge h
 
 pub no_label : (items : List Item) (label at : ℕ) (x : Item) → 0 < at → slice_get items (at - 1) ≡ Some x → ((l : ℕ) → x ≡ Label l → ⊥) → OnlyAbove items at label → OnlyAbove items (at - 1) label

@@ -4,10 +4,10 @@ use Rattle.std.specs.Prelude.{position, nat_lt, ◌==◌, slice_get}
 use Rattle.std.specs.List.{position_or_len, list_all}
 use Rattle.std.proofs.lemmas.List.{take-append-drop}
 use Rattle.std.proofs.lemmas.Bool.{lt-ltb, le-ltb, cases_lt, and_parts, and_from}
+use Rattle.std.proofs.lemmas.Option.{same_Some}
 use Rattle.x64_syntax.specs.declared.items.Item.{Item}
 use Rattle.x64_syntax.specs.declared.items.Item.TheVariants as item
 use Rattle.x64_syntax.specs.Programs.{labels_from}
-use Rattle.code_lower.proofs.First.{some_is}
 
 module _ {X : Type 0} (p : X → Bool) where
   at_first : (x : X) (xs : List X) → p x ≡ true → position p (x ∷ xs) ≡ Some 0
@@ -102,5 +102,5 @@ module _ (at : ℕ) (items front : List Item) (front_is : front ≡ take at item
 -- an item of items that all pass
 pub passes_at : (p : Item → Bool) (xs : List Item) (k : ℕ) (x : Item) → slice_get xs k ≡ Some x → list_all p xs ≡ true → p x ≡ true
 passes_at p [] k x h all = absurd cc
-passes_at p (y ∷ ys) zero x h all = ap p (sym (some_is h)) ∙ (and_parts (p y) (list_all p ys) all).0
+passes_at p (y ∷ ys) zero x h all = ap p (sym (same_Some _ _ h)) ∙ (and_parts (p y) (list_all p ys) all).0
 passes_at p (y ∷ ys) (suc k) x h all = passes_at p ys k x h (and_parts (p y) (list_all p ys) all).1

@@ -4,6 +4,7 @@ use Rattle.std.specs.Prelude.{nat_lt, codes, bytes_eq, Result, Ok, Err, slice_in
 use Rattle.std.specs.List.{list_all}
 use Rattle.std.proofs.lemmas.Bool.{and_parts, and_from, ltb-true, lt-ltb, false≢true}
 use Rattle.std.proofs.lemmas.Slice.Eq.{bytes_eq-Decides}
+use Rattle.std.proofs.lemmas.Option.{same_Some}
 use Rattle.hex.specs.Hex.{IsBytes, encode_lower, lower_digits, decode_of}
 use Rattle.hex.specs.declared.error.FromHexError.{FromHexError}
 use Rattle.hex.proofs.HexLemmas.{length-encode_with, decode_of-encode_lower}
@@ -13,7 +14,6 @@ use Rattle.x64_syntax.specs.Places.{place_name}
 use Rattle.x64_blocks.specs.Memory.{Range}
 use Rattle.x64_evaluator.specs.StateFile.{value_text, bytes_text, limit, are_bytes}
 use Rattle.x64_evaluator.specs.Setting.{Blankless}
-use Rattle.code_lower.proofs.First.{some_is}
 use Rattle.x64_evaluator.proofs.PlaceNames.{name_graphic}
 use Rattle.x64_evaluator.proofs.Texts.{blankless, cut_same, number_blankless}
 
@@ -32,7 +32,7 @@ pub none_is : {X : Type 0} (x : X) → ◌≡◌ {A = Option X} None (Some x) �
 none_is x e = cc
 
 pub pair_first : {X Y : Type 0} {a b : X} {x y : Y} → ◌≡◌ {A = Option (X × Y)} (Some (a, x)) (Some (b, y)) → (a ≡ b) × (x ≡ y)
-pair_first e = let p = some_is e in (ap (λ q. q.0) p, ap (λ q. q.1) p)
+pair_first e = let p = same_Some _ _ e in (ap (λ q. q.0) p, ap (λ q. q.1) p)
 
 -- the two words of a value
 pub value_cut : (p : Place) (n : ℕ) (word rest : List ℕ) → Blankless word → value_text p n ≡ word ++ (codes " " ++ rest) → (word ≡ place_name p) × (rest ≡ decimal n)

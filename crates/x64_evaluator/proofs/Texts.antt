@@ -1,5 +1,5 @@
 -- Words without blanks, and texts that are cut at the first blank.
-use Rattle.std.proofs.Common.{◌≡◌, ℕ, zero, suc, ◌+◌, ◌%◌, ◌^◌, ◌<◌, true, List, [], ◌∷◌, ◌++◌, get_or, drop, decimal, refl, sym, ap, ◌∙◌, arith}
+use Rattle.std.proofs.Common.{◌≡◌, ℕ, zero, suc, ◌+◌, ◌%◌, ◌^◌, ◌<◌, true, List, [], ◌∷◌, ◌++◌, decimal, refl, sym, ap, ◌∙◌, arith}
 use Rattle.std.specs.Prelude.{nat_lt}
 use Rattle.std.specs.Str.{IsAscii}
 use Rattle.std.proofs.lemmas.Bool.{and_parts, and_from, ltb-true, lt-ltb}
@@ -7,6 +7,7 @@ use Rattle.std.proofs.lemmas.Nat.{mod_below}
 use Rattle.std.proofs.lemmas.List.Folds.{list_all-append}
 use Rattle.std.proofs.lemmas.Str.Ascii.{IsAscii-nil, IsAscii-cons}
 use Rattle.std.proofs.lemmas.Fmt.{decimal_by_steps_wide}
+use Rattle.x64_syntax.proofs.Lists.{same_head, same_tail}
 use Rattle.x64_evaluator.specs.Setting.{is_graphic, graphic, Blankless}
 
 pub blankless : (bs : List ℕ) → graphic bs ≡ true → Blankless bs
@@ -33,20 +34,14 @@ decimal_graphic n lt =
     (λ n ds ge h. list_all-append is_graphic ds ((48 + n % 10) ∷ []) ∙ and_from _ _ h (and_from _ _ (digit_graphic (n % 10) (mod_below n 10 (omega arith))) refl))
     n lt
 
-pub head_is : {X : Type 0} {x y : X} {xs ys : List X} → x ∷ xs ≡ y ∷ ys → x ≡ y
-head_is {x = x} e = ap (λ l. get_or l 0 x) e
-
-pub tail_is : {X : Type 0} {x y : X} {xs ys : List X} → x ∷ xs ≡ y ∷ ys → xs ≡ ys
-tail_is e = ap (drop 1) e
-
 -- two words without blanks before a blank are one
 pub cut_same : (xs ys vs ws : List ℕ) → Blankless xs → Blankless vs → xs ++ 32 ∷ ys ≡ vs ++ 32 ∷ ws → (xs ≡ vs) × (ys ≡ ws)
-cut_same [] ys [] ws h k e = (refl, tail_is e)
-cut_same [] ys (v ∷ vs) ws h k e = absurd (k 0 (omega arith) (sym (head_is e)))
-cut_same (x ∷ xs) ys [] ws h k e = absurd (h 0 (omega arith) (head_is e))
+cut_same [] ys [] ws h k e = (refl, same_tail e)
+cut_same [] ys (v ∷ vs) ws h k e = absurd (k 0 (omega arith) (sym (same_head e)))
+cut_same (x ∷ xs) ys [] ws h k e = absurd (h 0 (omega arith) (same_head e))
 cut_same (x ∷ xs) ys (v ∷ vs) ws h k e =
-    let rest = cut_same xs ys vs ws (λ j lt. h (suc j) (omega (arith, lt))) (λ j lt. k (suc j) (omega (arith, lt))) (tail_is e) in
-    (ap (λ z. z ∷ xs) (head_is e) ∙ ap (λ zs. v ∷ zs) rest.0, rest.1)
+    let rest = cut_same xs ys vs ws (λ j lt. h (suc j) (omega (arith, lt))) (λ j lt. k (suc j) (omega (arith, lt))) (same_tail e) in
+    (ap (λ z. z ∷ xs) (same_head e) ∙ ap (λ zs. v ∷ zs) rest.0, rest.1)
 
 -- numbers of 128 bits have few digits
 pub few_digits : (n : ℕ) → n < 2 ^ 128 → n < 10 ^ 64

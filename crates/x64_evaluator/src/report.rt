@@ -1,7 +1,6 @@
 // What is told of a run.
 
-ghost use Rattle.std.specs.Prelude.{◌≡◌, ◌≤◌, ◌++◌, ◌∷◌, [], map, drop, length, codes, decimal, OnOk, IfOk};
-ghost use Rattle.x64_meaning.specs.State.{flag};
+ghost use Rattle.std.specs.Prelude.{◌≡◌, ◌++◌, map, codes, decimal, OnOk, IfOk};
 ghost use Rattle.x64_evaluator.specs.StateFile.{block_text};
 ghost use Rattle.x64_evaluator.specs.Evaluated.{way, halted};
 ghost use Rattle.x64_evaluator.specs.Report.{end_text, mark, reg_line, xmm_line, flag_line, direction, seen_text, text_of, state_text, report_text};
@@ -9,11 +8,10 @@ ghost use Rattle.x64_evaluator.specs.Report.{end_text, mark, reg_line, xmm_line,
 use crate::end::{End, RunEnd};
 use crate::settings::{push_range, push_value};
 use crate::trace::Trace;
-use asm_lines::{push, push_number};
 use std::alloc::{AllocError as NoMemory, Global};
 use x64_blocks::Blocks;
 use x64_meaning::{Fault, Flag, Machine, Obs};
-use x64_syntax::{FlagName, Place, Reg, Xmm};
+use x64_syntax::{FlagName, Place, Reg, Xmm, push, push_number};
 
 fn push_counted(out: &mut Vec<u8>, word: &str, n: u64) -> Result<(), NoMemory>
     ensures { OnOk result (out.new.items ≡ out.old.items ++ (word.now ++ decimal n)) }
@@ -64,17 +62,6 @@ fn push_xmms(out: &mut Vec<u8>, m: &Machine, xmms: &[Xmm]) -> Result<(), NoMemor
     Ok(())
 }
 
-fn are_four(flags: &[Flag; 4])
-    ensures { length flags.now ≡ 4 }
-{}
-
-fn flag(m: &Machine, name: FlagName) -> Flag
-    ensures { result ≡ flag m.now name }
-{
-    are_four(&m.flags);
-    m.flags[name.number()]
-}
-
 fn mark(flag: Flag) -> &'static str
     ensures { result.now ≡ mark flag }
 {
@@ -92,7 +79,7 @@ fn push_flags(out: &mut Vec<u8>, m: &Machine, flags: &[FlagName]) -> Result<(), 
     for name in flags {
         push(out, name.name())?;
         push(out, " ")?;
-        push(out, mark(flag(m, *name)))?;
+        push(out, mark(m.flag(*name)))?;
         push(out, "\n")?;
     }
     Ok(())

@@ -9,10 +9,9 @@ ghost use Rattle.x64_syntax.specs.Places.{place_name};
 ghost use Rattle.x64_evaluator.specs.StateFile.{limit, value_text, bytes_text, range_text, are_bytes};
 ghost use Rattle.x64_evaluator.specs.Setting.{IsValue, IsRange, range_seen, Blankless};
 
-use asm_lines::{push, push_number};
 use hex::{FromHexError, decode, encode};
 use std::alloc::{AllocError as NoMemory, Global};
-use x64_syntax::{Place, flag_named, reg_named, xmm_named};
+use x64_syntax::{Place, flag_named, push, push_number, reg_named, xmm_named};
 
 // The place of a name.
 fn place_named(name: &[u8]) -> Option<Place>

@@ -1,10 +1,7 @@
 -- Straight code: an assignment makes all its equations true and names its end.
-use Rattle.std.proofs.Common.{◌≡◌, ℕ, zero, suc, ◌+◌, ◌<◌, ◌≤◌, ◌^◌, Bool, true, false, not, List, [], ◌∷◌, ◌++◌, length, refl, sym, ap, ◌∙◌, subst, arith, ◌||◌, cond, append_assoc}
-use Rattle.std.specs.Prelude.{map, Option, Some, None, is_none, slice_get, if◌then◌else◌}
+use Rattle.std.proofs.Common.{◌≡◌, ℕ, zero, suc, ◌+◌, ◌<◌, ◌≤◌, ◌^◌, Bool, true, false, not, List, [], ◌∷◌, ◌++◌, length, refl, sym, ap, ◌∙◌, subst, arith, ◌||◌, cond}
+use Rattle.std.specs.Prelude.{map, Option, Some, None, is_none, if◌then◌else◌}
 use Rattle.std.specs.List.{AllByRecursion, list_all}
-use Rattle.std.proofs.Common.{length-append}
-use Rattle.std.proofs.Math.Seq.{get_or-append_seam}
-use Rattle.std.proofs.lemmas.Option.{slice_get-get_or}
 use Rattle.std.proofs.lemmas.Bool.{not-true, and_parts, false≢true}
 use Rattle.x64_syntax.specs.declared.places.Reg.TheVariants.{Rsp}
 use Rattle.x64_syntax.specs.declared.places.FlagName.TheVariants.{Cf, Zf, Sf, Of}
@@ -23,11 +20,12 @@ use Rattle.term_core.specs.Value.{Val, Word, Truth, cast, val_eq, Assignment, va
 use Rattle.x64_meaning.specs.State.{State, IsState, place_sort, read, reg}
 use Rattle.x64_meaning.specs.Exp.{Exp, no_words, exp_value, exp_term, among}
 use Rattle.x64_meaning.specs.Table.{Equation, equations, writes, reads, apply, in_order}
-use Rattle.x64_meaning.specs.Run.{access, operand_access, moved, first_undefined, with_access, with_flags, does, Done, Way, start, stepped, Ended, run, act, after_does}
+use Rattle.x64_meaning.specs.Run.{access, operand_access, moved, first_undefined, with_access, with_flags, does, Done, Way, start, stepped, Ended, run, act, after_does, StandAt}
 use Rattle.x64_meaning.specs.Contract.{Contract, Worth, Post, Frame, Meets, SameRuns}
 use Rattle.x64_meaning.specs.Condition.{no_terms, no_functions, uses_stack, Versions, version, version_name, next_versions, hypothesis, hypotheses, end_versions, first_versions, straight_hyps, straight_goal, is_plain, unwritten, straight_items, StraightFits, Names, IsNamed}
 use Rattle.term_core.proofs.Values.{val_eq_same}
 use Rattle.x64_meaning.proofs.Reading.{read-sorted}
+use Rattle.x64_meaning.proofs.Standing.{stands_behind}
 use Rattle.x64_meaning.proofs.Exps.{exp_term-value, exp_value-same, exp_value-all}
 use Rattle.x64_meaning.proofs.Apply.{apply-other, apply-IsState, apply-blocks, apply-equations, Equal, order_of, places, among_head, among_tail}
 use Rattle.x64_meaning.proofs.Ordered.{equations-in_order}
@@ -174,21 +172,6 @@ goal_true is e s ok plain small h =
     let holds = h a (hypotheses_hold a first_versions is s ok plain f) in
     sym (exp_value-all _ _ _ _ no_words first last e) ∙ sym term ∙ holds
 
--- these items stand in the list from a position on
-abbrev HasAt : List Item → ℕ → List Item → Type 0
-HasAt items at [] = Unit {0}
-HasAt items at (i ∷ is) = (slice_get items at ≡ Some i) × HasAt items (at + 1) is
-
-has_all : (is front : List Item) → HasAt (front ++ is) (length front) is
-has_all [] front = tt
-has_all (i ∷ is) front =
-    let within : length front < length (front ++ i ∷ is) = omega (arith, length-append front (i ∷ is)) in
-    let here = slice_get-get_or (front ++ i ∷ is) (length front) i within ∙ ap Some (get_or-append_seam front i is i) in
-    let n : length (front ++ i ∷ []) ≡ length front + 1 = omega (arith, length-append front (i ∷ [])) in
-    let rest = has_all is (front ++ i ∷ []) in
-    let rest' = subst (λ l. HasAt l (length (front ++ i ∷ [])) is) (append_assoc front (i ∷ []) is) rest in
-    (here, subst (λ m. HasAt (front ++ i ∷ is) m is) n rest')
-
 -- what a plain instruction does
 no_access : (o p : Option Mem) → is_none (or_else o p) ≡ true → (o ≡ None) × (p ≡ None)
 no_access None None h = (refl, refl)
@@ -225,7 +208,7 @@ plain_does i s h =
     ∙ ap (λ t. Done t []) (not_moved i (next s i) stack)
 
 -- straight code runs to its end
-run_straight : (items : List Item) (is : List Ins) (at : ℕ) (w : Way) → list_all is_plain is ≡ true → HasAt items at (map item.Ins is ++ item.Ret ∷ []) → (n : ℕ) × (w' : Way) × (run items n at w ≡ Ended w') × (w'.state ≡ end_of w.state is)
+run_straight : (items : List Item) (is : List Ins) (at : ℕ) (w : Way) → list_all is_plain is ≡ true → StandAt items at (map item.Ins is ++ item.Ret ∷ []) → (n : ℕ) × (w' : Way) × (run items n at w ≡ Ended w') × (w'.state ≡ end_of w.state is)
 run_straight items [] at w plain has = (1, stepped w w.state [], ap (λ o. act items o (run items 0) at w) has.0, refl)
 run_straight items (i ∷ is) at w plain has =
     let p = and_parts (is_plain i) (list_all is_plain is) plain in
@@ -255,7 +238,7 @@ promises_hold (e ∷ es) is s ok plain small h = (goal_true is e s ok plain smal
 
 pub straight_named : (name : List ℕ) (is : List Ins) → list_all is_plain is ≡ true → length is < 2 ^ 64 → IsNamed is (straight_items name is) 0
 straight_named name is plain small s ok =
-    let has = has_all (map item.Ins is ++ item.Ret ∷ []) (item.Entry name ∷ []) in
+    let has = stands_behind (item.Entry name ∷ []) (map item.Ins is ++ item.Ret ∷ []) in
     let r = run_straight (straight_items name is) is 1 (stepped (start s) s []) plain has in
     let f = assignment-follows is s ok small in
     let names : Names is s (end_of s is) = record {
@@ -271,7 +254,7 @@ straight_meets name is c fits s ok pre =
     let items = straight_items name is in
     let w0 = stepped (start s) s [] in
     let body = map item.Ins is ++ item.Ret ∷ [] in
-    let has = has_all body (item.Entry name ∷ []) in
+    let has = stands_behind (item.Entry name ∷ []) body in
     let r = run_straight items is 1 w0 fits.plain has in
     let same : r.1.state ≡ end_of s is = r.3 in
     let entry : run items (suc r.0) 0 (start s) ≡ run items r.0 1 w0 = refl in
@@ -293,7 +276,7 @@ record Alike (v w : Way) : Type 0 where
 one_more : (v w : Way) (s t : State) → Alike v w → Alike (stepped v s []) (stepped w t [])
 one_more v w s t a = record { steps = ap (λ n. n + 1) a.steps; seen = ap (λ l. l ++ []) a.seen }
 
-alike_runs : (items : List Item) (is : List Ins) (at n : ℕ) (v w v' : Way) → list_all is_plain is ≡ true → HasAt items at (map item.Ins is ++ item.Ret ∷ []) → Alike v w → run items n at v ≡ Ended v' → (w' : Way) × (run items n at w ≡ Ended w') × Alike v' w'
+alike_runs : (items : List Item) (is : List Ins) (at n : ℕ) (v w v' : Way) → list_all is_plain is ≡ true → StandAt items at (map item.Ins is ++ item.Ret ∷ []) → Alike v w → run items n at v ≡ Ended v' → (w' : Way) × (run items n at w ≡ Ended w') × Alike v' w'
 alike_runs items is at zero v w v' plain has a h = absurd cc
 alike_runs items [] at (suc n) v w v' plain has a h =
     let ends : (u : Way) → run items (suc n) at u ≡ Ended (stepped u u.state []) = λ u. ap (λ o. act items o (run items n) at u) has.0 in
@@ -310,7 +293,7 @@ pub straight_runs : (name : List ℕ) (is : List Ins) (c : Contract) → Straigh
 straight_runs name is c fits s t oks okt pres pret agree zero v h = absurd cc
 straight_runs name is c fits s t oks okt pres pret agree (suc n) v h =
     let items = straight_items name is in
-    let has = has_all (map item.Ins is ++ item.Ret ∷ []) (item.Entry name ∷ []) in
+    let has = stands_behind (item.Entry name ∷ []) (map item.Ins is ++ item.Ret ∷ []) in
     let begun : Alike (stepped (start s) s []) (stepped (start t) t []) = record { steps = refl; seen = refl } in
     let r = alike_runs items is 1 n (stepped (start s) s []) (stepped (start t) t []) v fits.plain has begun h in
     (r.0, r.1, r.2.steps, r.2.seen)

@@ -1,5 +1,5 @@
 -- What one instruction does, and runs of flat code.
-use Rattle.std.specs.Prelude.{ℕ, zero, suc, ◌+◌, ◌-◌, ◌*◌, ◌/◌, ◌%◌, length, Bool, true, false, not, ◌&&◌, ◌||◌, ◌==◌, List, [], ◌∷◌, ◌++◌, Option, Some, None, slice_get, position}
+use Rattle.std.specs.Prelude.{◌≡◌, ℕ, zero, suc, ◌+◌, ◌-◌, ◌*◌, ◌/◌, ◌%◌, length, Bool, true, false, not, ◌&&◌, ◌||◌, ◌==◌, List, [], ◌∷◌, ◌++◌, Option, Some, None, slice_get, position}
 use Rattle.std.specs.List.{find}
 use Rattle.std.specs.Int.{to_le_bytes, w64}
 use Rattle.x64_syntax.specs.declared.places.Reg.{Reg as GeneralReg}
@@ -180,3 +180,8 @@ act items (Some item.Ret) next pos w = Ended (stepped w w.state [])
 abbrev pub run : List Item → ℕ → Next
 run items zero pos w = Running pos w
 run items (suc n) pos w = act items (slice_get items pos) (run items n) pos w
+
+-- these items stand in a list from a position on
+abbrev pub StandAt : List Item → ℕ → List Item → Type 0
+StandAt items at [] = Unit {0}
+StandAt items at (i ∷ is) = (slice_get items at ≡ Some i) × StandAt items (at + 1) is

@@ -1,7 +1,8 @@
 // The machine's state, and what is seen of a step.
 
-ghost use Rattle.std.specs.Prelude.{◌≡◌, replicate};
-ghost use Rattle.x64_meaning.specs.declared.machine.Flag.TheVariants as flag;
+ghost use Rattle.std.specs.Prelude.{◌≡◌, length, replicate};
+ghost use Rattle.x64_meaning.specs.declared.machine.Flag.TheVariants as value;
+ghost use Rattle.x64_meaning.specs.State.{flag};
 
 use std::marker::Model;
 use x64_blocks::Blocks;
@@ -48,10 +49,14 @@ impl Model for Machine {
     ghost view = { λ m. record { regs = m.regs; xmms = m.xmms; flags = m.flags; blocks = m.blocks } };
 }
 
+fn are_four(flags: &[Flag; 4])
+    ensures { length flags.now ≡ 4 }
+{}
+
 impl Machine {
     /// A machine over these blocks: its registers are 0 and its flags undefined.
     pub fn new(blocks: Blocks) -> Self
-        ensures { result ≡ record { regs = replicate 16 0; xmms = replicate 16 0; flags = replicate 4 flag.Undefined; blocks = blocks } }
+        ensures { result ≡ record { regs = replicate 16 0; xmms = replicate 16 0; flags = replicate 4 value.Undefined; blocks = blocks } }
     {
         Machine {
             regs: [0; 16],
@@ -59,6 +64,14 @@ impl Machine {
             flags: [Flag::Undefined; 4],
             blocks,
         }
+    }
+
+    /// The value of a flag.
+    pub fn flag(&self, name: FlagName) -> Flag
+        ensures { result ≡ flag self.now name }
+    {
+        are_four(&self.flags);
+        self.flags[name.number()]
     }
 }
 

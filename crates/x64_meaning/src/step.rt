@@ -63,14 +63,10 @@ fn source(m: &Machine, s: &Opr) -> Result<(u64, Option<Obs>), Fault>
     }
 }
 
-// Registers are 16 words, and flags are four.
+// Registers are 16 words.
 fn are_words(regs: [u64; 16])
     ensures length { length regs ≡ 16 }
     ensures fits { (k : ℕ) → slice_index regs k < T }
-{}
-
-fn are_four(flags: &[Flag; 4])
-    ensures { length flags.now ≡ 4 }
 {}
 
 // The word that an instruction takes in beside its registers, and the access that this needs.
@@ -188,8 +184,7 @@ fn act(m: &mut Machine, ins: &Ins) -> Result<Option<Obs>, Fault>
 fn is_open(m: &Machine, name: FlagName) -> bool
     ensures { result ≡ is_undefined (flag m.now name) }
 {
-    are_four(&m.flags);
-    m.flags[name.number()] == Flag::Undefined
+    m.flag(name) == Flag::Undefined
 }
 
 // The flag, where it is undefined.

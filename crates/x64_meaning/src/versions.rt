@@ -5,10 +5,9 @@ ghost use Rattle.term_core.specs.Terms.{tree};
 ghost use Rattle.x64_meaning.specs.State.{place_sort};
 ghost use Rattle.x64_meaning.specs.Condition.{version_name, version};
 
-use itoa::Buffer;
 use std::alloc::{AllocError as NoMemory, Global};
 use term_core::{Sort, Term};
-use x64_syntax::{Place, Text};
+use x64_syntax::{Place, Text, push_number};
 
 /// The sort of what a place holds. A flag is a whole number: 0, 1, or 2 where it is undefined.
 pub fn place_sort(place: Place) -> Sort
@@ -27,7 +26,7 @@ pub fn version_name(alloc: Global, place: Place, number: u64) -> Result<Text, No
 {
     let mut name = Vec::from_slice(alloc, place.name().as_bytes())?;
     name.push(b'.')?;
-    name.extend_from_slice(Buffer::new().format(number).as_bytes())?;
+    push_number(&mut name, number)?;
     Ok(Text::from_vec(name))
 }
 

@@ -1,3 +1,4 @@
 pub mod PlaceLemmas
 pub mod Bits
 pub mod Pieces
+pub mod Lists
