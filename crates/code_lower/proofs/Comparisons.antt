@@ -15,7 +15,7 @@ use Rattle.x64_syntax.specs.declared.conditions.Cmp.TheVariants as cmp
 use Rattle.x64_syntax.specs.declared.conditions.Cond.{Cond}
 use Rattle.x64_syntax.specs.declared.conditions.Cond.TheVariants as cond
 use Rattle.x64_syntax.specs.Instructions.{cond_flags}
-use Rattle.term_core.specs.declared.operator.Sort.TheVariants as sort
+use Rattle.x64_syntax.specs.declared.type_words.Sort.TheVariants as sort
 use Rattle.term_core.specs.Value.{T, Whole, word, word_of, whole, cast}
 use Rattle.x64_meaning.specs.declared.machine.Flag.{Flag as FlagValue}
 use Rattle.x64_meaning.specs.declared.machine.Flag.TheVariants.{Undefined}

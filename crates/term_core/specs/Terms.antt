@@ -2,8 +2,8 @@
 use Rattle.std.specs.Prelude.{ℕ, ℤ, List, [], ◌∷◌, Bool, true, false, ◌&&◌, ◌==◌, map}
 use Rattle.std.specs.Ordering.{int_eq}
 use Rattle.std.specs.Str.{bytes_eq}
-use Rattle.term_core.specs.declared.operator.Sort.{Sort}
-use Rattle.term_core.specs.declared.operator.Sort.TheVariants as sort
+use Rattle.x64_syntax.specs.declared.type_words.Sort.{Sort}
+use Rattle.x64_syntax.specs.declared.type_words.Sort.TheVariants as sort
 use Rattle.term_core.specs.declared.operator.UnOp.{UnOp}
 use Rattle.term_core.specs.declared.operator.UnOp.TheVariants as un
 use Rattle.term_core.specs.declared.operator.BinOp.{BinOp}

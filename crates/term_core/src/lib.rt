@@ -4,5 +4,5 @@
 mod operator;
 mod term;
 
-pub use operator::{BinOp, CountedOp, Operator, Sort, UnOp, operator_of};
+pub use operator::{BinOp, CountedOp, Operator, UnOp, operator_of};
 pub use term::{Sequent, Term, same, sort_of};

@@ -1,20 +1,10 @@
-// Sorts, and the operators of terms with the sorts that they take and give.
+// The operators of terms, with the sorts that they take and give.
 
 ghost use Rattle.std.specs.Prelude.{◌≡◌, ◌&&◌};
 ghost use Rattle.term_core.specs.Terms.{un_eq, bin_eq, counted_eq};
 ghost use Rattle.term_core.specs.Operators.{sort_eq, bits_sort, un_sort, un_result, bin_sort, bin_result, counted_sort, counted_result, given_if, operator_of};
 
-use x64_syntax::BuiltIn;
-
-/// What kind of value a term has: a whole number, a truth, a word of 64 or 128 bits, or an array of words of 64 bits.
-#[derive(Clone, Copy, Debug, PartialEq, Eq)]
-pub enum Sort {
-    Int,
-    Bool,
-    W64,
-    W128,
-    Arr,
-}
+use x64_syntax::{BuiltIn, Sort};
 
 /// An operator on one term.
 #[derive(Clone, Copy, Debug, PartialEq, Eq)]

@@ -3,9 +3,9 @@
 ghost use Rattle.std.specs.Prelude.{◌≡◌, map};
 ghost use Rattle.term_core.specs.Terms.{tree, tms, tm_eq, tms_eq, tm_sort};
 
-use crate::operator::{BinOp, CountedOp, Sort, UnOp};
+use crate::operator::{BinOp, CountedOp, UnOp};
 use sqlite_items::{Boxed, Items};
-use x64_syntax::Text;
+use x64_syntax::{Sort, Text};
 
 /// A term. A name has its sort with it.
 #[derive(Debug, Drop)]

@@ -10,7 +10,8 @@ ghost use Rattle.vale_driver.specs.RingCode.{seen, seen_all, atom_of, sides_of, 
 use crate::certificate::Pair;
 use sqlite_items::at as nth;
 use std::alloc::{AllocError as NoMemory, Global};
-use term_core::{BinOp, Sort, Term, same, sort_of};
+use term_core::{BinOp, Term, same, sort_of};
+use x64_syntax::Sort;
 
 /// The widest that all sides together may be.
 const WIDTH_LIMIT: u64 = 4096;

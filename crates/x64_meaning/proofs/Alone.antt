@@ -15,7 +15,7 @@ use Rattle.x64_syntax.specs.declared.instructions.ShiftOp.{ShiftOp}
 use Rattle.x64_syntax.specs.declared.instructions.ShiftOp.TheVariants as shift
 use Rattle.x64_syntax.specs.declared.operands.Mem.{Mem}
 use Rattle.word_ops.specs.Words as words
-use Rattle.term_core.specs.declared.operator.Sort.TheVariants as sort
+use Rattle.x64_syntax.specs.declared.type_words.Sort.TheVariants as sort
 use Rattle.term_core.specs.declared.operator.UnOp.TheVariants as un
 use Rattle.term_core.specs.declared.operator.BinOp.TheVariants as bin
 use Rattle.term_core.specs.declared.operator.CountedOp.{CountedOp}

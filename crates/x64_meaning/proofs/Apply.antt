@@ -7,7 +7,7 @@ use Rattle.x64_syntax.specs.declared.places.Place.{Place}
 use Rattle.x64_syntax.specs.declared.places.Place.TheVariants.{Reg, Xmm, Flag}
 use Rattle.x64_syntax.specs.Places.{place_eq}
 use Rattle.x64_syntax.proofs.PlaceLemmas.{place_eq_is, place_eq_same}
-use Rattle.term_core.specs.declared.operator.Sort.TheVariants as sort
+use Rattle.x64_syntax.specs.declared.type_words.Sort.TheVariants as sort
 use Rattle.term_core.specs.Value.{Val, Whole, whole, truth, cast}
 use Rattle.x64_meaning.specs.State.{State, IsState, read, write, flag_from, flag_number_of}
 use Rattle.x64_meaning.specs.Exp.{Exp, Int, Ite, exp_sort, exp_value, among, knows}

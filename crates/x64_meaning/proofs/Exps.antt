@@ -3,7 +3,7 @@ use Rattle.std.proofs.Common.{◌≡◌, ℕ, true, List, refl, ap, arith, mod-e
 use Rattle.std.proofs.lemmas.Nat.{mod_below}
 use Rattle.std.proofs.lemmas.Bool.{and_parts}
 use Rattle.x64_syntax.specs.declared.places.Place.{Place}
-use Rattle.term_core.specs.declared.operator.Sort.TheVariants as sort
+use Rattle.x64_syntax.specs.declared.type_words.Sort.TheVariants as sort
 use Rattle.term_core.specs.Terms.{Tm, tm_sort}
 use Rattle.term_core.specs.Operators.{un_sort, bin_sort, counted_sort}
 use Rattle.term_core.specs.Value.{T, Val, Word, truth, un_value, shifted, counted_value, Functions, Assignment, value}

@@ -7,7 +7,7 @@ use Rattle.x64_syntax.specs.declared.places.Place.{Place}
 use Rattle.x64_syntax.specs.declared.places.Place.TheVariants.{Flag}
 use Rattle.x64_syntax.specs.declared.places.FlagName.{FlagName}
 use Rattle.word_ops.specs.Words.{bit}
-use Rattle.term_core.specs.declared.operator.Sort.TheVariants as sort
+use Rattle.x64_syntax.specs.declared.type_words.Sort.TheVariants as sort
 use Rattle.term_core.specs.declared.operator.UnOp.TheVariants as un
 use Rattle.term_core.specs.declared.operator.BinOp.TheVariants as bin
 use Rattle.term_core.specs.Value.{T, Val, Whole, Truth, Word, whole, word, truth}

@@ -7,7 +7,7 @@ use Rattle.x64_syntax.specs.declared.operands.Opr.{Opr}
 use Rattle.x64_syntax.specs.declared.operands.Opr.TheVariants.{R, Imm, M}
 use Rattle.x64_syntax.specs.declared.instructions.Ins.{Ins}
 use Rattle.x64_syntax.specs.Instructions.{source_memory}
-use Rattle.term_core.specs.declared.operator.Sort.TheVariants as sort
+use Rattle.x64_syntax.specs.declared.type_words.Sort.TheVariants as sort
 use Rattle.term_core.specs.Operators.{un_sort, bin_sort}
 use Rattle.term_core.specs.Value.{T, Val, Word, word_of, counted_value}
 use Rattle.x64_meaning.specs.declared.machine.Obs.{Obs}

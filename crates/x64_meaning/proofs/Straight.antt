@@ -15,7 +15,7 @@ use Rattle.x64_syntax.specs.declared.instructions.Ins.TheVariants.{Push, Pop}
 use Rattle.x64_syntax.specs.Instructions.{or_else, loads_from, stores_to, accesses, halves_differ}
 use Rattle.x64_syntax.specs.declared.items.Item.{Item}
 use Rattle.x64_syntax.specs.declared.items.Item.TheVariants as item
-use Rattle.term_core.specs.declared.operator.Sort.{Sort}
+use Rattle.x64_syntax.specs.declared.type_words.Sort.{Sort}
 use Rattle.term_core.specs.Value.{Val, Word, Truth, cast, val_eq, Assignment, value, Holds, True}
 use Rattle.x64_meaning.specs.State.{State, IsState, place_sort, read, reg}
 use Rattle.x64_meaning.specs.Exp.{Exp, no_words, exp_value, exp_term, among}

@@ -4,8 +4,8 @@ use Rattle.std.specs.Prelude.{ℕ, ℤ, Bool, true, ◌&&◌, ◌||◌, false, i
 use Rattle.x64_syntax.specs.declared.places.Place.{Place}
 use Rattle.x64_syntax.specs.Places.{place_eq}
 pub use Rattle.x64_syntax.specs.Instructions.{is_among as among}
-use Rattle.term_core.specs.declared.operator.Sort.{Sort}
-use Rattle.term_core.specs.declared.operator.Sort.TheVariants as sort
+use Rattle.x64_syntax.specs.declared.type_words.Sort.{Sort}
+use Rattle.x64_syntax.specs.declared.type_words.Sort.TheVariants as sort
 use Rattle.term_core.specs.declared.operator.UnOp.{UnOp}
 use Rattle.term_core.specs.declared.operator.BinOp.{BinOp}
 use Rattle.term_core.specs.declared.operator.CountedOp.{CountedOp}

@@ -6,8 +6,8 @@ ghost use Rattle.x64_meaning.specs.State.{place_sort};
 ghost use Rattle.x64_meaning.specs.Condition.{version_name, version};
 
 use std::alloc::{AllocError as NoMemory, Global};
-use term_core::{Sort, Term};
-use x64_syntax::{Place, Text, push_number};
+use term_core::Term;
+use x64_syntax::{Place, Sort, Text, push_number};
 
 /// The sort of what a place holds. A flag is a whole number: 0, 1, or 2 where it is undefined.
 pub fn place_sort(place: Place) -> Sort

@@ -81,7 +81,7 @@ mod tests {
     use crate::conditions::Cond;
     use crate::instructions::{AluOp, CarryOp, XBinOp};
     use crate::operations::{Operation, operation_named};
-    use crate::type_words::{TypeWord, type_word_named};
+    use crate::type_words::{Abi, Sort, TypeWord, type_word_named};
 
     #[test]
     fn tells_instructions_by_their_names(rt: HostRuntime) {
@@ -110,8 +110,8 @@ mod tests {
         assert_eq!(rt; built_in_named(b"mulhi"), Some(BuiltIn::Mulhi));
         assert_eq!(rt; built_in_named(b"forall"), Some(BuiltIn::ForAll));
         assert_eq!(rt; built_in_named(b"slot0"), None);
-        assert_eq!(rt; type_word_named(b"w128"), Some(TypeWord::W128));
-        assert_eq!(rt; type_word_named(b"sysv"), Some(TypeWord::Sysv));
+        assert_eq!(rt; type_word_named(b"w128"), Some(TypeWord::Sort(Sort::W128)));
+        assert_eq!(rt; type_word_named(b"sysv"), Some(TypeWord::Abi(Abi::Sysv)));
         assert_eq!(rt; type_word_named(b"W64"), None);
         assert_eq!(rt; reg_named(b"r15"), Some(Reg::R15));
         assert_eq!(rt; xmm_named(b"xmm16"), None);
