@@ -10,8 +10,8 @@ use Rattle.vale_syntax.specs.declared.lookahead.Lookahead.{Lookahead}
 use Rattle.vale_syntax.specs.declared.lookahead.Lookahead.TheVariants as see
 use Rattle.vale_syntax.specs.declared.expr.Name.{Name}
 use Rattle.vale_syntax.specs.declared.statement.SortName.{SortName}
-use Rattle.vale_syntax.specs.declared.statement.SortName.TheVariants as sort
-use Rattle.vale_syntax.specs.declared.declaration.Kind.{Kind}
+use Rattle.x64_syntax.specs.declared.type_words.Sort.TheVariants as sort
+use Rattle.vale_syntax.specs.declared.declaration.KindName.{KindName}
 use Rattle.vale_syntax.specs.declared.declaration.Bind.{Bind}
 use Rattle.vale_syntax.specs.declared.declaration.Param.{Param}
 use Rattle.vale_syntax.specs.declared.declaration.Param.TheVariants as param
@@ -29,7 +29,7 @@ use Rattle.vale_syntax.proofs.Complete.{loose, found}
 use Rattle.vale_syntax.proofs.Grows.{spells_short}
 use Rattle.expr_parser.specs.Reads.{expression}
 use Rattle.vale_parser.specs.Parts.{bind as and_then, mark_eq, expect, before}
-use Rattle.vale_parser.specs.Productions.{asked, is_name, is_secret, name, sort_behind, kind_behind, bind, place_at, place, operand_at, out_at, inline_sort, inline_at, ghost_at, block_at, guarded_by, guarded, param_by, parameter}
+use Rattle.vale_parser.specs.Productions.{asked, is_name, is_secret, name, sort_behind, kind_behind, bind, place_at, place, operand_at, out_at, inline_by, inline_at, ghost_at, block_at, guarded_by, guarded, param_by, parameter}
 use Rattle.vale_parser.proofs.Parts.{bound, expect_found}
 
 -- dropping twice
@@ -84,7 +84,7 @@ sort_behind_found ts s p q =
     bound (expect mark.Colon ts) (drop 1 ts) (λ rest. and_then (sort_at rest) (λ s. Some (s, drop 1 rest))) _ (expect_found mark.Colon ts refl p)
     (bound (sort_at (drop 1 ts)) s (λ s. Some (s, drop 1 (drop 1 ts))) _ q (ap (λ l. Some (s, l)) (dd 1 1 ts)))
 
-kind_behind_found : (ts : List Token) (k : Kind) → peek ts ≡ see.Mark mark.Colon → kind_at (drop 1 ts) ≡ Some k → kind_behind ts ≡ Some (k, drop 2 ts)
+kind_behind_found : (ts : List Token) (k : KindName) → peek ts ≡ see.Mark mark.Colon → kind_at (drop 1 ts) ≡ Some k → kind_behind ts ≡ Some (k, drop 2 ts)
 kind_behind_found ts k p q =
     bound (expect mark.Colon ts) (drop 1 ts) (λ rest. and_then (kind_at rest) (λ k. Some (k, drop 1 rest))) _ (expect_found mark.Colon ts refl p)
     (bound (kind_at (drop 1 ts)) k (λ k. Some (k, drop 1 (drop 1 ts))) _ q (ap (λ l. Some (k, l)) (dd 1 1 ts)))
@@ -110,22 +110,22 @@ place_found ts r rest (is_place {mid = mid} open_ p) =
     ap (λ f. cond (is_secret f) (place_at (spot_of ts) true (drop 1 ts)) (place_at (spot_of ts) false ts)) p ∙ place_at_found (spot_of ts) false ts p
 
 -- parameters
-operand_found : (s : Spot) (b : Bool) (d : Direction) (k : Kind) (ts : List Token) → peek ts ≡ see.Name → peek (drop 1 ts) ≡ see.Mark mark.Colon → kind_at (drop 2 ts) ≡ Some k → operand_at s b d ts ≡ Some (param.Operand s b d (name_of ts) k, drop 3 ts)
+operand_found : (s : Spot) (b : Bool) (d : Direction) (k : KindName) (ts : List Token) → peek ts ≡ see.Name → peek (drop 1 ts) ≡ see.Mark mark.Colon → kind_at (drop 2 ts) ≡ Some k → operand_at s b d ts ≡ Some (param.Operand s b d (name_of ts) k, drop 3 ts)
 operand_found s b d k ts p q r =
     bound (name ts) (name_of ts, drop 1 ts) (λ n. and_then (kind_behind n.1) (λ k. Some (param.Operand s b d n.0 k.0, k.1))) _ (name_found ts p)
     (bound (kind_behind (drop 1 ts)) (k, drop 2 (drop 1 ts)) (λ k. Some (param.Operand s b d (name_of ts) k.0, k.1)) _ (kind_behind_found (drop 1 ts) k q (ap kind_at (dd 1 1 ts) ∙ r))
     (ap (λ l. Some (param.Operand s b d (name_of ts) k, l)) (dd 1 2 ts)))
 
-out_found : (s : Spot) (k : Kind) (ts : List Token) → peek ts ≡ see.Name → peek (drop 1 ts) ≡ see.Mark mark.Colon → kind_at (drop 2 ts) ≡ Some k → out_at s ts ≡ Some (param.Out s (name_of ts) k, drop 3 ts)
+out_found : (s : Spot) (k : KindName) (ts : List Token) → peek ts ≡ see.Name → peek (drop 1 ts) ≡ see.Mark mark.Colon → kind_at (drop 2 ts) ≡ Some k → out_at s ts ≡ Some (param.Out s (name_of ts) k, drop 3 ts)
 out_found s k ts p q r =
     bound (name ts) (name_of ts, drop 1 ts) (λ n. and_then (kind_behind n.1) (λ k. Some (param.Out s n.0 k.0, k.1))) _ (name_found ts p)
     (bound (kind_behind (drop 1 ts)) (k, drop 2 (drop 1 ts)) (λ k. Some (param.Out s (name_of ts) k.0, k.1)) _ (kind_behind_found (drop 1 ts) k q (ap kind_at (dd 1 1 ts) ∙ r))
     (ap (λ l. Some (param.Out s (name_of ts) k, l)) (dd 1 2 ts)))
 
-inline_found : (s t : Spot) (ts : List Token) → peek ts ≡ see.Name → peek (drop 1 ts) ≡ see.Mark mark.Colon → sort_at (drop 2 ts) ≡ Some (sort.Int t) → inline_at s ts ≡ Some (param.Inline s (name_of ts), drop 3 ts)
+inline_found : (s t : Spot) (ts : List Token) → peek ts ≡ see.Name → peek (drop 1 ts) ≡ see.Mark mark.Colon → sort_at (drop 2 ts) ≡ Some (record { sort = sort.Int; spot = t }) → inline_at s ts ≡ Some (param.Inline s (name_of ts), drop 3 ts)
 inline_found s t ts p q r =
-    bound (name ts) (name_of ts, drop 1 ts) (λ n. and_then (sort_behind n.1) (inline_sort s n.0)) _ (name_found ts p)
-    (bound (sort_behind (drop 1 ts)) (sort.Int t, drop 2 (drop 1 ts)) (inline_sort s (name_of ts)) _ (sort_behind_found (drop 1 ts) (sort.Int t) q (ap sort_at (dd 1 1 ts) ∙ r))
+    bound (name ts) (name_of ts, drop 1 ts) (λ n. and_then (sort_behind n.1) (λ t. inline_by t.0.sort (param.Inline s n.0, t.1))) _ (name_found ts p)
+    (bound (sort_behind (drop 1 ts)) (record { sort = sort.Int; spot = t }, drop 2 (drop 1 ts)) (λ t. inline_by t.0.sort (param.Inline s (name_of ts), t.1)) _ (sort_behind_found (drop 1 ts) (record { sort = sort.Int; spot = t }) q (ap sort_at (dd 1 1 ts) ∙ r))
     (ap (λ l. Some (param.Inline s (name_of ts), l)) (dd 1 2 ts)))
 
 ghost_found : (s : Spot) (t : SortName) (ts : List Token) → peek ts ≡ see.Name → peek (drop 1 ts) ≡ see.Mark mark.Colon → sort_at (drop 2 ts) ≡ Some t → ghost_at s ts ≡ Some (param.Ghost s (name_of ts) t, drop 3 ts)
@@ -135,7 +135,7 @@ ghost_found s t ts p q r =
     (ap (λ l. Some (param.Ghost s (name_of ts) t, l)) (dd 1 2 ts)))
 
 -- behind `secret` or nothing
-guarded_operand : (s : Spot) (b : Bool) (d : Direction) (k : Kind) (f : Lookahead) (ts : List Token) → direction_by f ≡ Some d → peek ts ≡ see.Name → peek (drop 1 ts) ≡ see.Mark mark.Colon → kind_at (drop 2 ts) ≡ Some k
+guarded_operand : (s : Spot) (b : Bool) (d : Direction) (k : KindName) (f : Lookahead) (ts : List Token) → direction_by f ≡ Some d → peek ts ≡ see.Name → peek (drop 1 ts) ≡ see.Mark mark.Colon → kind_at (drop 2 ts) ≡ Some k
     → guarded_by s b f ts ≡ Some (param.Operand s b d (name_of ts) k, drop 3 ts)
 guarded_operand s b d k (see.Keyword word.In) ts e p q r = subst (λ d. operand_at s b direction.In ts ≡ Some (param.Operand s b d (name_of ts) k, drop 3 ts)) (same_Some direction.In d e) (operand_found s b direction.In k ts p q r)
 guarded_operand s b d k (see.Keyword word.InOut) ts e p q r = subst (λ d. operand_at s b direction.InOut ts ≡ Some (param.Operand s b d (name_of ts) k, drop 3 ts)) (same_Some direction.InOut d e) (operand_found s b direction.InOut k ts p q r)

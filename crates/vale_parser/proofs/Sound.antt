@@ -11,8 +11,9 @@ use Rattle.vale_syntax.specs.declared.lookahead.Lookahead.{Lookahead}
 use Rattle.vale_syntax.specs.declared.lookahead.Lookahead.TheVariants as see
 use Rattle.vale_syntax.specs.declared.expr.Name.{Name}
 use Rattle.vale_syntax.specs.declared.statement.SortName.{SortName}
-use Rattle.vale_syntax.specs.declared.statement.SortName.TheVariants as sort
-use Rattle.vale_syntax.specs.declared.declaration.Kind.{Kind}
+use Rattle.x64_syntax.specs.declared.type_words.Sort.{Sort}
+use Rattle.x64_syntax.specs.declared.type_words.Sort.TheVariants as sort
+use Rattle.vale_syntax.specs.declared.declaration.KindName.{KindName}
 use Rattle.vale_syntax.specs.declared.declaration.Bind.{Bind}
 use Rattle.vale_syntax.specs.declared.declaration.Param.{Param}
 use Rattle.vale_syntax.specs.declared.declaration.Param.TheVariants as param
@@ -30,7 +31,7 @@ use Rattle.vale_syntax.specs.Declarations.{IsName, name as is_name_, IsBind, bin
 use Rattle.vale_syntax.proofs.Sound.{bind_some as parse_some, sound}
 use Rattle.expr_parser.specs.Reads.{expression}
 use Rattle.vale_parser.specs.Parts.{bind as and_then, is_mark, expect, before, separated}
-use Rattle.vale_parser.specs.Productions.{asked, is_name, is_secret, is_invariant, name, sort_behind, kind_behind, bind, place_at, place, inline_sort, guarded_by, param_by, parameter, memory_at, value_at, argument_by, argument, expression_end, invariant_, test}
+use Rattle.vale_parser.specs.Productions.{asked, is_name, is_secret, is_invariant, name, sort_behind, kind_behind, bind, place_at, place, inline_by, guarded_by, param_by, parameter, memory_at, value_at, argument_by, argument, expression_end, invariant_, test}
 use Rattle.vale_parser.proofs.Parts.{bind_some, peek_is, expected, separated_sound}
 use Rattle.vale_parser.proofs.Found.{dd}
 
@@ -72,8 +73,8 @@ on_sort k ts F y h =
     let e = expected mark.Colon (drop k ts) l a in
     (s, e.0, ap sort_at (sym (dd k 1 ts) ∙ e.1) ∙ c, ap (λ m. F (s, m)) (sym (dd k 2 ts) ∙ sym (dd 1 1 (drop k ts)) ∙ ap (λ m. drop 1 m) e.1) ∙ ap F (same_Some _ p d) ∙ r)
 
-pub on_kind : {B : Type 0} (k : ℕ) (ts : List Token) (F : Kind × List Token → Option B) (y : B) → and_then (kind_behind (drop k ts)) F ≡ Some y
-    → (s : Kind) × (peek (drop k ts) ≡ see.Mark mark.Colon) × (kind_at (drop (k + 1) ts) ≡ Some s) × (F (s, drop (k + 2) ts) ≡ Some y)
+pub on_kind : {B : Type 0} (k : ℕ) (ts : List Token) (F : KindName × List Token → Option B) (y : B) → and_then (kind_behind (drop k ts)) F ≡ Some y
+    → (s : KindName) × (peek (drop k ts) ≡ see.Mark mark.Colon) × (kind_at (drop (k + 1) ts) ≡ Some s) × (F (s, drop (k + 2) ts) ≡ Some y)
 on_kind k ts F y h =
     let (p, q, r) = bind_some (kind_behind (drop k ts)) F y h in
     let (l, a, b) = bind_some (expect mark.Colon (drop k ts)) (λ rest. and_then (kind_at rest) (λ s. Some (s, drop 1 rest))) p q in
@@ -154,16 +155,16 @@ param_sound ts p rest (see.Keyword word.Out) e h =
     let (k, q, r, t) = on_kind 2 ts (λ k. Some (param.Out (spot_of ts) (name_of (drop 1 ts)) k.0, k.1)) (p, rest) a.1 in
     finish IsParam ts _ (p, rest) t (out e a.0 q r)
 param_sound ts p rest (see.Keyword word.Inline) e h =
-    let a = on_name 1 ts (λ n. and_then (sort_behind n.1) (inline_sort (spot_of ts) n.0)) (p, rest) h in
-    let (s, q, r, t) = on_sort 2 ts (inline_sort (spot_of ts) (name_of (drop 1 ts))) (p, rest) a.1 in
-    by_sort s a.0 q r t
+    let a = on_name 1 ts (λ n. and_then (sort_behind n.1) (λ t. inline_by t.0.sort (param.Inline (spot_of ts) n.0, t.1))) (p, rest) h in
+    let (s, q, r, t) = on_sort 2 ts (λ t. inline_by t.0.sort (param.Inline (spot_of ts) (name_of (drop 1 ts)), t.1)) (p, rest) a.1 in
+    by_sort s.sort s.spot a.0 q r t
   where
-    by_sort : (s : SortName) → peek (drop 1 ts) ≡ see.Name → peek (drop 2 ts) ≡ see.Mark mark.Colon → sort_at (drop 3 ts) ≡ Some s → inline_sort (spot_of ts) (name_of (drop 1 ts)) (s, drop 4 ts) ≡ Some (p, rest) → IsParam ts p rest
-    by_sort (sort.Int t) a q r h = finish IsParam ts (param.Inline (spot_of ts) (name_of (drop 1 ts)), drop 4 ts) (p, rest) h (inline_ e a q r)
-    by_sort (sort.Bool t) a q r h = absurd cc
-    by_sort (sort.W64 t) a q r h = absurd cc
-    by_sort (sort.W128 t) a q r h = absurd cc
-    by_sort (sort.Arr t) a q r h = absurd cc
+    by_sort : (o : Sort) (s : Spot) → peek (drop 1 ts) ≡ see.Name → peek (drop 2 ts) ≡ see.Mark mark.Colon → sort_at (drop 3 ts) ≡ Some (record { sort = o; spot = s }) → inline_by o (param.Inline (spot_of ts) (name_of (drop 1 ts)), drop 4 ts) ≡ Some (p, rest) → IsParam ts p rest
+    by_sort sort.Int s a q r h = finish IsParam ts (param.Inline (spot_of ts) (name_of (drop 1 ts)), drop 4 ts) (p, rest) h (inline_ e a q r)
+    by_sort sort.Bool s a q r h = absurd cc
+    by_sort sort.W64 s a q r h = absurd cc
+    by_sort sort.W128 s a q r h = absurd cc
+    by_sort sort.Arr s a q r h = absurd cc
 param_sound ts p rest (see.Keyword word.Ghost) e h =
     let a = on_name 1 ts (λ n. and_then (sort_behind n.1) (λ t. Some (param.Ghost (spot_of ts) n.0 t.0, t.1))) (p, rest) h in
     let (s, q, r, t) = on_sort 2 ts (λ t. Some (param.Ghost (spot_of ts) (name_of (drop 1 ts)) t.0, t.1)) (p, rest) a.1 in

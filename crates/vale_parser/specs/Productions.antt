@@ -1,6 +1,8 @@
 -- The thing of each production that tokens begin with, found by looking ahead; `declarations_as_spelled` says that it is the one that they spell.
 use Rattle.std.specs.Prelude.{ℕ, zero, suc, max, Bool, true, false, ◌&&◌, List, [], length, drop, Option, Some, None, if◌then◌else◌}
 use Rattle.x64_syntax.specs.declared.keywords.Keyword.TheVariants as word
+use Rattle.x64_syntax.specs.declared.type_words.Sort.{Sort}
+use Rattle.x64_syntax.specs.declared.type_words.Sort.TheVariants as sort
 use Rattle.vale_syntax.specs.declared.spot.Spot.{Spot}
 use Rattle.vale_syntax.specs.declared.token.Token.{Token}
 use Rattle.vale_syntax.specs.declared.mark.Mark.TheVariants as mark
@@ -8,8 +10,7 @@ use Rattle.vale_syntax.specs.declared.lookahead.Lookahead.{Lookahead}
 use Rattle.vale_syntax.specs.declared.lookahead.Lookahead.TheVariants as see
 use Rattle.vale_syntax.specs.declared.expr.Name.{Name}
 use Rattle.vale_syntax.specs.declared.statement.SortName.{SortName}
-use Rattle.vale_syntax.specs.declared.statement.SortName.TheVariants as sort
-use Rattle.vale_syntax.specs.declared.declaration.Kind.{Kind}
+use Rattle.vale_syntax.specs.declared.declaration.KindName.{KindName}
 use Rattle.vale_syntax.specs.declared.declaration.Direction.{Direction}
 use Rattle.vale_syntax.specs.declared.declaration.Direction.TheVariants as direction
 use Rattle.vale_syntax.specs.declared.declaration.Bind.{Bind}
@@ -69,7 +70,7 @@ name ts = asked (is_name (peek ts)) (Some (name_of ts, drop 1 ts))
 abbrev pub sort_behind : List Token → Option (SortName × List Token)
 sort_behind ts = and_then (expect mark.Colon ts) (λ rest. and_then (sort_at rest) (λ s. Some (s, drop 1 rest)))
 
-abbrev pub kind_behind : List Token → Option (Kind × List Token)
+abbrev pub kind_behind : List Token → Option (KindName × List Token)
 kind_behind ts = and_then (expect mark.Colon ts) (λ rest. and_then (kind_at rest) (λ k. Some (k, drop 1 rest)))
 
 unfoldable pub bind : Parser Bind
@@ -88,12 +89,13 @@ operand_at s b d ts = and_then (name ts) (λ n. and_then (kind_behind n.1) (λ k
 abbrev pub out_at : Spot → List Token → Option (Param × List Token)
 out_at s ts = and_then (name ts) (λ n. and_then (kind_behind n.1) (λ k. Some (param.Out s n.0 k.0, k.1)))
 
-abbrev pub inline_sort : Spot → Name → SortName × List Token → Option (Param × List Token)
-inline_sort s n (sort.Int t, rest) = Some (param.Inline s n, rest)
-inline_sort s n (_, rest) = None
+-- an `inline` parameter is a whole number
+abbrev pub inline_by : Sort → Param × List Token → Option (Param × List Token)
+inline_by sort.Int found = Some found
+inline_by _ found = None
 
 abbrev pub inline_at : Spot → List Token → Option (Param × List Token)
-inline_at s ts = and_then (name ts) (λ n. and_then (sort_behind n.1) (inline_sort s n.0))
+inline_at s ts = and_then (name ts) (λ n. and_then (sort_behind n.1) (λ t. inline_by t.0.sort (param.Inline s n.0, t.1)))
 
 abbrev pub ghost_at : Spot → List Token → Option (Param × List Token)
 ghost_at s ts = and_then (name ts) (λ n. and_then (sort_behind n.1) (λ t. Some (param.Ghost s n.0 t.0, t.1)))

@@ -14,9 +14,9 @@ use expr_parser::{after, spot_of};
 use sqlite_items::Items;
 use std::alloc::Global;
 use vale_syntax::{
-    Bind, Direction, Lookahead, Name, Param, ReadPlace, SortName, Spot, Token, peek,
+    Bind, Direction, Lookahead, Name, Param, ReadPlace, Spot, Token, peek,
 };
-use x64_syntax::Keyword;
+use x64_syntax::{Keyword, Sort};
 
 #[tactic(auto, unfolding(crate::specs::Productions::bind))]
 fn bind<'a>(alloc: Global, tokens: &'a [Token]) -> Result<Read<'a, Bind>, PartFault>
@@ -101,8 +101,8 @@ fn inline_at<'a>(
 {
     let name = name(alloc, tokens)?;
     let sort = sort_behind(name.rest)?;
-    match sort.part {
-        SortName::Int(_) => Ok(Read {
+    match sort.part.sort {
+        Sort::Int => Ok(Read {
             part: Param::Inline(spot, name.part),
             rest: sort.rest,
         }),

@@ -10,29 +10,23 @@ ghost use Rattle.vale_parser.specs.Reads.{Gives};
 use crate::fault::PartFault;
 use crate::front::{Read, expect};
 use expr_parser::{after, spot_of};
-use vale_syntax::{AbiName, Kind, Lookahead, Mark, SortName, Spot, Token, peek};
+use vale_syntax::{AbiName, KindName, Lookahead, Mark, SortName, Spot, Token, peek};
 use x64_syntax::{Keyword, TypeWord, type_word_named};
 
 fn sort_word(word: Option<TypeWord>, spot: Spot) -> Option<SortName>
     ensures { result ≡ sort_word word spot }
 {
     match word? {
-        TypeWord::Int => Some(SortName::Int(spot)),
-        TypeWord::Bool => Some(SortName::Bool(spot)),
-        TypeWord::W64 => Some(SortName::W64(spot)),
-        TypeWord::W128 => Some(SortName::W128(spot)),
-        TypeWord::Arr => Some(SortName::Arr(spot)),
+        TypeWord::Sort(sort) => Some(SortName { sort, spot }),
         _ => None,
     }
 }
 
-fn kind_word(word: Option<TypeWord>, spot: Spot) -> Option<Kind>
+fn kind_word(word: Option<TypeWord>, spot: Spot) -> Option<KindName>
     ensures { result ≡ kind_word word spot }
 {
     match word? {
-        TypeWord::Reg => Some(Kind::Reg(spot)),
-        TypeWord::Opr => Some(Kind::Opr(spot)),
-        TypeWord::Xmm => Some(Kind::Xmm(spot)),
+        TypeWord::Kind(kind) => Some(KindName { kind, spot }),
         _ => None,
     }
 }
@@ -41,8 +35,7 @@ fn abi_word(word: Option<TypeWord>, spot: Spot) -> Option<AbiName>
     ensures { result ≡ abi_word word spot }
 {
     match word? {
-        TypeWord::Sysv => Some(AbiName::Sysv(spot)),
-        TypeWord::Win => Some(AbiName::Win(spot)),
+        TypeWord::Abi(abi) => Some(AbiName { abi, spot }),
         _ => None,
     }
 }
@@ -70,7 +63,7 @@ pub(crate) fn sort_at(tokens: &[Token]) -> Option<SortName>
 
 /// The kind of operands that the first token is.
 #[tactic(auto, unfolding(crate::specs::Looks::kind_at))]
-pub(crate) fn kind_at(tokens: &[Token]) -> Option<Kind>
+pub(crate) fn kind_at(tokens: &[Token]) -> Option<KindName>
     ensures { result ≡ kind_at tokens.now }
 {
     match peek(tokens) {
@@ -105,7 +98,7 @@ pub(crate) fn sort_behind(tokens: &[Token]) -> Result<Read<'_, SortName>, PartFa
 }
 
 /// `: kind`
-pub(crate) fn kind_behind(tokens: &[Token]) -> Result<Read<'_, Kind>, PartFault>
+pub(crate) fn kind_behind(tokens: &[Token]) -> Result<Read<'_, KindName>, PartFault>
     ensures { Gives (λ r. (r.part, r.rest.now)) result (kind_behind tokens.now) }
 {
     let rest = expect(tokens, Mark::Colon)?;

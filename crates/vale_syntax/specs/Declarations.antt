@@ -12,11 +12,9 @@ use Rattle.vale_syntax.specs.declared.lookahead.Lookahead.{Lookahead}
 use Rattle.vale_syntax.specs.declared.lookahead.Lookahead.TheVariants as see
 use Rattle.vale_syntax.specs.declared.expr.Name.{Name}
 use Rattle.vale_syntax.specs.declared.statement.SortName.{SortName}
-use Rattle.vale_syntax.specs.declared.statement.SortName.TheVariants as sort
-use Rattle.vale_syntax.specs.declared.declaration.Kind.{Kind}
-use Rattle.vale_syntax.specs.declared.declaration.Kind.TheVariants as kind
+use Rattle.x64_syntax.specs.declared.type_words.Sort.TheVariants as sort
+use Rattle.vale_syntax.specs.declared.declaration.KindName.{KindName}
 use Rattle.vale_syntax.specs.declared.declaration.AbiName.{AbiName}
-use Rattle.vale_syntax.specs.declared.declaration.AbiName.TheVariants as abi
 use Rattle.vale_syntax.specs.declared.declaration.Direction.{Direction}
 use Rattle.vale_syntax.specs.declared.declaration.Direction.TheVariants as direction
 use Rattle.vale_syntax.specs.declared.declaration.Bind.{Bind}
@@ -31,23 +29,20 @@ use Rattle.vale_syntax.specs.Lists.{Closed, Separated, Many}
 use Rattle.vale_syntax.specs.Statements.{Expression, sort_at, Block, LBlock, statement_limit}
 
 -- the kind of operands that a word is
-abbrev pub kind_word : Option TypeWord → Spot → Option Kind
-kind_word (Some type_word.Reg) s = Some (kind.Reg s)
-kind_word (Some type_word.Opr) s = Some (kind.Opr s)
-kind_word (Some type_word.Xmm) s = Some (kind.Xmm s)
+abbrev pub kind_word : Option TypeWord → Spot → Option KindName
+kind_word (Some (type_word.Kind k)) s = Some (record { kind = k; spot = s })
 kind_word _ s = None
 
-abbrev pub kind_by : Lookahead → List Token → Option Kind
+abbrev pub kind_by : Lookahead → List Token → Option KindName
 kind_by see.Name ts = kind_word (type_word_of (text_of ts)) (spot_of ts)
 kind_by _ ts = None
 
-unfoldable pub kind_at : List Token → Option Kind
+unfoldable pub kind_at : List Token → Option KindName
 kind_at ts = kind_by (peek ts) ts
 
 -- the calling convention that a word is
 abbrev pub abi_word : Option TypeWord → Spot → Option AbiName
-abi_word (Some type_word.Sysv) s = Some (abi.Sysv s)
-abi_word (Some type_word.Win) s = Some (abi.Win s)
+abi_word (Some (type_word.Abi a)) s = Some (record { abi = a; spot = s })
 abi_word _ s = None
 
 abbrev pub abi_by : Lookahead → List Token → Option AbiName
@@ -80,11 +75,11 @@ pub data IsPlace : List Token → ReadPlace → List Token → Type 0 where
   place : {ts mid : List Token} {b : Bool} → IsSecret ts b mid → peek mid ≡ see.Name → IsPlace ts (record { spot = spot_of ts; is_secret = b; name = name_of mid }) (drop 1 mid)
 
 pub data IsParam : List Token → Param → List Token → Type 0 where
-  operand : {ts mid : List Token} {b : Bool} {d : Direction} {k : Kind} → IsSecret ts b mid → direction_by (peek mid) ≡ Some d → peek (drop 1 mid) ≡ see.Name → peek (drop 2 mid) ≡ see.Mark mark.Colon → kind_at (drop 3 mid) ≡ Some k
+  operand : {ts mid : List Token} {b : Bool} {d : Direction} {k : KindName} → IsSecret ts b mid → direction_by (peek mid) ≡ Some d → peek (drop 1 mid) ≡ see.Name → peek (drop 2 mid) ≡ see.Mark mark.Colon → kind_at (drop 3 mid) ≡ Some k
       → IsParam ts (param.Operand (spot_of ts) b d (name_of (drop 1 mid)) k) (drop 4 mid)
-  out : {ts : List Token} {k : Kind} → peek ts ≡ see.Keyword word.Out → peek (drop 1 ts) ≡ see.Name → peek (drop 2 ts) ≡ see.Mark mark.Colon → kind_at (drop 3 ts) ≡ Some k
+  out : {ts : List Token} {k : KindName} → peek ts ≡ see.Keyword word.Out → peek (drop 1 ts) ≡ see.Name → peek (drop 2 ts) ≡ see.Mark mark.Colon → kind_at (drop 3 ts) ≡ Some k
       → IsParam ts (param.Out (spot_of ts) (name_of (drop 1 ts)) k) (drop 4 ts)
-  inline_ : {ts : List Token} {s : Spot} → peek ts ≡ see.Keyword word.Inline → peek (drop 1 ts) ≡ see.Name → peek (drop 2 ts) ≡ see.Mark mark.Colon → sort_at (drop 3 ts) ≡ Some (sort.Int s)
+  inline_ : {ts : List Token} {s : Spot} → peek ts ≡ see.Keyword word.Inline → peek (drop 1 ts) ≡ see.Name → peek (drop 2 ts) ≡ see.Mark mark.Colon → sort_at (drop 3 ts) ≡ Some (record { sort = sort.Int; spot = s })
       → IsParam ts (param.Inline (spot_of ts) (name_of (drop 1 ts))) (drop 4 ts)
   ghost_ : {ts : List Token} {s : SortName} → peek ts ≡ see.Keyword word.Ghost → peek (drop 1 ts) ≡ see.Name → peek (drop 2 ts) ≡ see.Mark mark.Colon → sort_at (drop 3 ts) ≡ Some s
       → IsParam ts (param.Ghost (spot_of ts) (name_of (drop 1 ts)) s) (drop 4 ts)

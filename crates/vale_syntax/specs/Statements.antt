@@ -11,7 +11,6 @@ use Rattle.vale_syntax.specs.declared.mark.Mark.TheVariants as mark
 use Rattle.vale_syntax.specs.declared.lookahead.Lookahead.{Lookahead}
 use Rattle.vale_syntax.specs.declared.lookahead.Lookahead.TheVariants as see
 use Rattle.vale_syntax.specs.declared.statement.SortName.{SortName}
-use Rattle.vale_syntax.specs.declared.statement.SortName.TheVariants as sort
 use Rattle.vale_syntax.specs.Operators.{any}
 use Rattle.vale_syntax.specs.Peek.{peek, text_of, spot_of}
 use Rattle.vale_syntax.specs.Trees.{Ex}
@@ -27,11 +26,7 @@ pub record Expression (ts : List Token) (x : Ex) (rest : List Token) : Type 0 wh
 
 -- the sort that a word is
 abbrev pub sort_word : Option TypeWord → Spot → Option SortName
-sort_word (Some type_word.Int) s = Some (sort.Int s)
-sort_word (Some type_word.Bool) s = Some (sort.Bool s)
-sort_word (Some type_word.W64) s = Some (sort.W64 s)
-sort_word (Some type_word.W128) s = Some (sort.W128 s)
-sort_word (Some type_word.Arr) s = Some (sort.Arr s)
+sort_word (Some (type_word.Sort t)) s = Some (record { sort = t; spot = s })
 sort_word _ s = None
 
 abbrev pub sort_by : Lookahead → List Token → Option SortName

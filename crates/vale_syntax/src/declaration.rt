@@ -4,20 +4,20 @@ use crate::expr::{Expr, Name};
 use crate::spot::Spot;
 use crate::statement::{LemmaStmt, SortName, Stmt};
 use sqlite_items::Items;
+use x64_syntax::{Abi, Kind};
 
-/// A kind of operands, where it stands.
+/// A kind of operands, and where it stands.
 #[derive(Clone, Copy, Debug, PartialEq, Eq)]
-pub enum Kind {
-    Reg(Spot),
-    Opr(Spot),
-    Xmm(Spot),
+pub struct KindName {
+    pub kind: Kind,
+    pub spot: Spot,
 }
 
-/// A calling convention, where it stands.
+/// A calling convention, and where it stands.
 #[derive(Clone, Copy, Debug, PartialEq, Eq)]
-pub enum AbiName {
-    Sysv(Spot),
-    Win(Spot),
+pub struct AbiName {
+    pub abi: Abi,
+    pub spot: Spot,
 }
 
 /// Whether an operand is read alone, or written too.
@@ -38,9 +38,9 @@ pub struct Bind {
 #[derive(Debug, Drop, PartialEq, Eq)]
 pub enum Param {
     /// `in x: reg`, `secret inout x: opr`; the truth says whether it is secret.
-    Operand(Spot, bool, Direction, Name, Kind),
+    Operand(Spot, bool, Direction, Name, KindName),
     /// `out x: reg`
-    Out(Spot, Name, Kind),
+    Out(Spot, Name, KindName),
     /// `inline n: int`
     Inline(Spot, Name),
     /// `ghost x: sort`

@@ -13,7 +13,7 @@ mod statement;
 mod token;
 
 pub use declaration::{
-    AbiName, Bind, Clause, Decl, Direction, Kind, LemmaClause, Param, ReadPlace,
+    AbiName, Bind, Clause, Decl, Direction, KindName, LemmaClause, Param, ReadPlace,
 };
 pub use expr::{Expr, Name};
 pub use laws::{longest_mark, printed_as_spelled, read_as_spelled, spelled_once};

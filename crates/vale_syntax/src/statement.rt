@@ -3,15 +3,13 @@
 use crate::expr::{Expr, Name};
 use crate::spot::Spot;
 use sqlite_items::Items;
+use x64_syntax::Sort;
 
-/// A sort, where it stands.
+/// A sort, and where it stands.
 #[derive(Clone, Copy, Debug, PartialEq, Eq)]
-pub enum SortName {
-    Int(Spot),
-    Bool(Spot),
-    W64(Spot),
-    W128(Spot),
-    Arr(Spot),
+pub struct SortName {
+    pub sort: Sort,
+    pub spot: Spot,
 }
 
 /// An argument of a statement.
