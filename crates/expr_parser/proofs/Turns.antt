@@ -1,10 +1,6 @@
 -- One turn of what goes on behind an expression.
 use Rattle.std.proofs.Common.{◌≡◌, ℕ, suc, ◌<◌, ◌≤◌, max, ap, drop, Bool, true, false, cond, List, Option, Some, None, refl, ◌∙◌}
-use Rattle.std.specs.Prelude.{nat_le, Result, IsErrAnd}
-use Rattle.std.proofs.lemmas.Result.{err_from_is_err_and}
-use Rattle.expr_parser.specs.declared.fault.ExprFault.{ExprFault}
-use Rattle.expr_parser.specs.declared.fault.ExprFault.TheVariants.{NotAnExpr, NoMemory}
-use Rattle.expr_parser.specs.Reads.{Fails, Gives}
+use Rattle.std.specs.Prelude.{nat_le}
 use Rattle.std.proofs.lemmas.Bool.{le-leb, lt-leb}
 use Rattle.vale_syntax.specs.declared.spot.Spot.{Spot}
 use Rattle.vale_syntax.specs.declared.token.Token.{Token}
@@ -95,11 +91,3 @@ index_done sub b n s g e = ap (λ k. indexed sub b k s g) e
 pub others_done : (sub : Parser) (n : ℕ) (xs : Exs) (d : ℕ) (ts : List Token) → n ≡ 0 → others sub n xs d ts ≡ None
 unfolding others
 others_done sub n xs d ts e = ap (λ k. others sub k xs d ts) e
-
--- a fault that is passed on
-pub passed_on : {X Y Z : Type 0} (view : X → Y) (r : Result X ExprFault) (e : ExprFault) (part : Option Z) (o : Option Y) → IsErrAnd r (λ f. f ≡ e) → Fails e part → (part ≡ None → o ≡ None) → Gives view r o
-passed_on view r e part o h fails go = let (f, p, q) = err_from_is_err_and r h in rw (p, q) (by_fault e fails)
-  where
-    by_fault : (e : ExprFault) → Fails e part → Fails e o
-    by_fault NotAnExpr h = go h
-    by_fault NoMemory h = tt

@@ -1,13 +1,11 @@
 //! Expressions from tokens: exactly those that the grammar spells.
 #![tactic(auto)]
 
-mod fault;
 mod lists;
 mod nodes;
 mod parser;
 #[cfg(test)]
 mod tests;
 
-pub use fault::ExprFault;
 pub use lists::{after, name_of, spot_of};
 pub use parser::{read_expr, read_front};

@@ -6,12 +6,12 @@ ghost use Rattle.vale_syntax.specs.Operators.{rank_of};
 ghost use Rattle.vale_syntax.specs.Expressions.{whole, counted, negated, name_of, leaf, leaf_by};
 ghost use Rattle.vale_syntax.specs.Parse.{operator};
 ghost use Rattle.vale_syntax.specs.Trees.{tree};
-ghost use Rattle.expr_parser.specs.Marks.{is_round_close, is_square_open, is_square_close, is_comma};
-ghost use Rattle.expr_parser.specs.Reads.{Gives};
+ghost use Rattle.vale_syntax.specs.inner.Matches.{Gives};
 
-use crate::fault::ExprFault;
 use std::alloc::{AllocError, Global};
-use vale_syntax::{BinaryOp, Expr, Lookahead, Mark, Name, Spot, Token, peek};
+use vale_syntax::{
+    BinaryOp, Expr, Lookahead, Mark, MatchFault, Name, Spot, Token, WHOLE_LIMIT, peek,
+};
 use x64_syntax::{Keyword, Text};
 
 /// The tokens behind the first ones.
@@ -53,7 +53,7 @@ fn whole(value: u128) -> Option<i128>
     ensures value { result ≡ whole value }
     ensures natural { IfSome result (λ z. pos 0 ≤ℤ z) }
 {
-    if value < 1 << 127 {
+    if value < WHOLE_LIMIT {
         Some(value as i128)
     } else {
         None
@@ -73,34 +73,6 @@ pub(crate) fn negated(tokens: &[Token]) -> Option<i128>
     }
 }
 
-/// Whether a token is `)`.
-pub(crate) fn is_round_close(token: Lookahead) -> bool
-    ensures { result ≡ is_round_close token }
-{
-    matches!(token, Lookahead::Mark(Mark::RoundClose))
-}
-
-/// Whether a token is `[`.
-pub(crate) fn is_square_open(token: Lookahead) -> bool
-    ensures { result ≡ is_square_open token }
-{
-    matches!(token, Lookahead::Mark(Mark::SquareOpen))
-}
-
-/// Whether a token is `]`.
-pub(crate) fn is_square_close(token: Lookahead) -> bool
-    ensures { result ≡ is_square_close token }
-{
-    matches!(token, Lookahead::Mark(Mark::SquareClose))
-}
-
-/// Whether a token is `,`.
-pub(crate) fn is_comma(token: Lookahead) -> bool
-    ensures { result ≡ is_comma token }
-{
-    matches!(token, Lookahead::Mark(Mark::Comma))
-}
-
 /// The operator of a rank that a token is.
 pub(crate) fn operator(rank: u8, token: Lookahead) -> Option<BinaryOp>
     ensures { result ≡ operator rank token }
@@ -113,14 +85,14 @@ pub(crate) fn operator(rank: u8, token: Lookahead) -> Option<BinaryOp>
 
 /// The expression that the first token is by itself.
 #[tactic(auto, unfolding(crate::specs::Looks::leaf))]
-pub(crate) fn leaf(alloc: Global, tokens: &[Token]) -> Result<Expr, ExprFault>
+pub(crate) fn leaf(alloc: Global, tokens: &[Token]) -> Result<Expr, MatchFault>
     ensures { Gives tree result (leaf tokens.now) }
 {
     let spot = spot_of(tokens);
     match peek(tokens) {
         Lookahead::Int(value) => match whole(value) {
             Some(value) => Ok(Expr::Int(spot, value)),
-            None => Err(ExprFault::NotAnExpr),
+            None => Err(MatchFault::NoMatch),
         },
         Lookahead::Word(value) => Ok(Expr::Word(spot, value)),
         Lookahead::Wide(value) => Ok(Expr::Wide(spot, value)),
@@ -128,6 +100,6 @@ pub(crate) fn leaf(alloc: Global, tokens: &[Token]) -> Result<Expr, ExprFault>
         Lookahead::Keyword(Keyword::False) => Ok(Expr::False(spot)),
         Lookahead::Keyword(Keyword::Prev) => Ok(Expr::Prev(spot)),
         Lookahead::Name | Lookahead::Stamped => Ok(Expr::Name(name_of(alloc, tokens)?)),
-        _ => Err(ExprFault::NotAnExpr),
+        _ => Err(MatchFault::NoMatch),
     }
 }

@@ -6,16 +6,17 @@ ghost use Rattle.vale_syntax.specs.Peek.{peek};
 ghost use Rattle.vale_syntax.specs.Trees.{Ex, tree};
 ghost use Rattle.vale_syntax.specs.Expressions.{IsExpr, leaf};
 ghost use Rattle.vale_syntax.specs.Parse.{alone, round, prefixed, others, arguments, named_by, atom, indexed, unary, chain, ranked, parse, read};
-ghost use Rattle.expr_parser.specs.Reads.{expression, view, view_list, Gives};
+ghost use Rattle.vale_syntax.specs.declared.fault.MatchFault.TheVariants.{NoMatch};
+ghost use Rattle.vale_syntax.specs.inner.Matches.{Gives};
+ghost use Rattle.expr_parser.specs.Reads.{expression, view, view_list};
 
-use crate::fault::ExprFault;
-use crate::lists::{
-    after, is_comma, is_round_close, is_square_close, is_square_open, leaf, name_of, negated,
-    operator, spot_of,
-};
+use crate::lists::{after, leaf, name_of, negated, operator, spot_of};
 use crate::nodes::{self, Parsed, ParsedList};
 use std::alloc::Global;
-use vale_syntax::{BinaryOp, Expr, Lookahead, Mark, Spot, Token, UnaryOp, peek, read_as_spelled};
+use vale_syntax::{
+    BinaryOp, Expr, Lookahead, Mark, MatchFault, Spot, Token, UnaryOp, is_mark, peek,
+    read_as_spelled,
+};
 
 /// The rank of whole expressions.
 const ANY: u8 = 6;
@@ -24,9 +25,9 @@ const ANY: u8 = 6;
 const DEPTH_LIMIT: u8 = 200;
 
 /// The expression that the tokens are, all of them.
-pub fn read_expr(alloc: Global, tokens: &[Token]) -> Result<Expr, ExprFault>
+pub fn read_expr(alloc: Global, tokens: &[Token]) -> Result<Expr, MatchFault>
     ensures ok { IfOk result (λ x. IsExpr tokens.now (tree x)) }
-    ensures not_an_expr { IsErrOf result ExprFault.NotAnExpr → (x : Ex) → IsExpr tokens.now x → ⊥ }
+    ensures not_an_expr { IsErrOf result NoMatch → (x : Ex) → IsExpr tokens.now x → ⊥ }
 {
     read_as_spelled();
     whole(alloc, tokens)
@@ -35,7 +36,7 @@ pub fn read_expr(alloc: Global, tokens: &[Token]) -> Result<Expr, ExprFault>
 /// The expression that the tokens begin with, and the tokens behind it: the longest that no operator, bracket or index
 /// goes on.
 #[tactic(auto, unfolding(crate::specs::Reads::expression))]
-pub fn read_front<'a>(alloc: Global, tokens: &'a [Token]) -> Result<(Expr, &'a [Token]), ExprFault>
+pub fn read_front<'a>(alloc: Global, tokens: &'a [Token]) -> Result<(Expr, &'a [Token]), MatchFault>
     ensures { Gives (λ p. (tree p.0, p.1.now)) result (expression tokens.now) }
 {
     let found = part(alloc, tokens, ANY, DEPTH_LIMIT)?;
@@ -43,25 +44,25 @@ pub fn read_front<'a>(alloc: Global, tokens: &'a [Token]) -> Result<(Expr, &'a [
 }
 
 #[tactic(auto, unfolding(crate::specs::Looks::read, crate::specs::Reads::expression))]
-fn whole(alloc: Global, tokens: &[Token]) -> Result<Expr, ExprFault>
+fn whole(alloc: Global, tokens: &[Token]) -> Result<Expr, MatchFault>
     ensures { Gives tree result (read tokens.now) }
 {
     let (found, rest) = read_front(alloc, tokens)?;
     match rest {
         [] => Ok(found),
-        _ => Err(ExprFault::NotAnExpr),
+        _ => Err(MatchFault::NoMatch),
     }
 }
 
 // The expression of a rank at the front, with a depth of at most `left`.
 #[cycle(expression)]
 #[tactic(auto, unfolding(crate::specs::Looks::parse))]
-fn part<'a>(alloc: Global, tokens: &'a [Token], rank: u8, left: u8) -> Result<Parsed<'a>, ExprFault>
+fn part<'a>(alloc: Global, tokens: &'a [Token], rank: u8, left: u8) -> Result<Parsed<'a>, MatchFault>
     ensures found { Gives view result (parse left rank tokens.now) }
     ensures shallow { IfOk result (λ p. p.height ≤ left) }
 {
     if left == 0 {
-        return Err(ExprFault::NotAnExpr);
+        return Err(MatchFault::NoMatch);
     }
     ranked(alloc, tokens, rank, left - 1)
 }
@@ -74,7 +75,7 @@ fn ranked<'a>(
     tokens: &'a [Token],
     rank: u8,
     below: u8,
-) -> Result<Parsed<'a>, ExprFault>
+) -> Result<Parsed<'a>, MatchFault>
     requires { below < 255 }
     ensures found { Gives view result (ranked (parse below) below rank tokens.now) }
     ensures shallow { IfOk result (λ p. p.height ≤ suc below) }
@@ -94,7 +95,7 @@ fn chain<'a>(
     rank: u8,
     spot: Spot,
     below: u8,
-) -> Result<Parsed<'a>, ExprFault>
+) -> Result<Parsed<'a>, MatchFault>
     requires room { below < 255 }
     requires first { first.height ≤ suc below }
     ensures found { Gives view result (chain (parse below) below (suc below) rank spot (view first.entry)) }
@@ -107,7 +108,7 @@ fn chain<'a>(
             return Ok(sofar);
         };
         if below < sofar.height {
-            return Err(ExprFault::NotAnExpr);
+            return Err(MatchFault::NoMatch);
         }
         let right = part(alloc, after(sofar.rest, 1), op.right(), below)?;
         sofar = nodes::binary(alloc, spot, op, sofar, right)?;
@@ -118,7 +119,7 @@ fn chain<'a>(
 
 #[cycle(expression)]
 #[tactic(auto, unfolding(crate::specs::Looks::unary))]
-fn unary<'a>(alloc: Global, tokens: &'a [Token], below: u8) -> Result<Parsed<'a>, ExprFault>
+fn unary<'a>(alloc: Global, tokens: &'a [Token], below: u8) -> Result<Parsed<'a>, MatchFault>
     requires { below < 255 }
     ensures found { Gives view result (unary (parse below) below tokens.now) }
     ensures shallow { IfOk result (λ p. p.height ≤ suc below) }
@@ -147,7 +148,7 @@ fn prefixed<'a>(
     tokens: &'a [Token],
     op: UnaryOp,
     below: u8,
-) -> Result<Parsed<'a>, ExprFault>
+) -> Result<Parsed<'a>, MatchFault>
     requires { below < 255 }
     ensures found { Gives view result (prefixed (parse below) op tokens.now) }
     ensures shallow { IfOk result (λ p. p.height ≤ suc below) }
@@ -163,7 +164,7 @@ fn indexed<'a>(
     first: Parsed<'a>,
     spot: Spot,
     below: u8,
-) -> Result<Parsed<'a>, ExprFault>
+) -> Result<Parsed<'a>, MatchFault>
     requires room { below < 255 }
     requires first { first.height ≤ suc below }
     ensures found { Gives view result (indexed (parse below) below (suc below) spot (view first.entry)) }
@@ -171,15 +172,15 @@ fn indexed<'a>(
 {
     let mut sofar = first;
     for _turn in 0..below + 1 {
-        if !is_square_open(peek(sofar.rest)) {
+        if !is_mark(Mark::SquareOpen, peek(sofar.rest)) {
             return Ok(sofar);
         }
         if below < sofar.height {
-            return Err(ExprFault::NotAnExpr);
+            return Err(MatchFault::NoMatch);
         }
         let at = part(alloc, after(sofar.rest, 1), ANY, below)?;
-        if !is_square_close(peek(at.rest)) {
-            return Err(ExprFault::NotAnExpr);
+        if !is_mark(Mark::SquareClose, peek(at.rest)) {
+            return Err(MatchFault::NoMatch);
         }
         let rest = after(at.rest, 1);
         sofar = nodes::index(alloc, spot, sofar, at, rest)?;
@@ -189,7 +190,7 @@ fn indexed<'a>(
 
 #[cycle(expression)]
 #[tactic(auto, unfolding(crate::specs::Looks::atom))]
-fn atom<'a>(alloc: Global, tokens: &'a [Token], below: u8) -> Result<Parsed<'a>, ExprFault>
+fn atom<'a>(alloc: Global, tokens: &'a [Token], below: u8) -> Result<Parsed<'a>, MatchFault>
     requires { below < 255 }
     ensures found { Gives view result (atom (parse below) tokens.now) }
     ensures shallow { IfOk result (λ p. p.height ≤ suc below) }
@@ -202,7 +203,7 @@ fn atom<'a>(alloc: Global, tokens: &'a [Token], below: u8) -> Result<Parsed<'a>,
 }
 
 // A token that is an expression by itself.
-fn alone<'a>(alloc: Global, tokens: &'a [Token]) -> Result<Parsed<'a>, ExprFault>
+fn alone<'a>(alloc: Global, tokens: &'a [Token]) -> Result<Parsed<'a>, MatchFault>
     ensures found { Gives view result (alone (leaf tokens.now) tokens.now) }
     ensures shallow { IfOk result (λ p. p.height ≤ 1) }
 {
@@ -215,14 +216,14 @@ fn alone<'a>(alloc: Global, tokens: &'a [Token]) -> Result<Parsed<'a>, ExprFault
 
 // An expression in round brackets.
 #[cycle(expression)]
-fn bracketed<'a>(alloc: Global, tokens: &'a [Token], below: u8) -> Result<Parsed<'a>, ExprFault>
+fn bracketed<'a>(alloc: Global, tokens: &'a [Token], below: u8) -> Result<Parsed<'a>, MatchFault>
     requires { below < 255 }
     ensures found { Gives view result (round (parse below) tokens.now) }
     ensures shallow { IfOk result (λ p. p.height ≤ suc below) }
 {
     let inner = part(alloc, after(tokens, 1), ANY, below)?;
     let Lookahead::Mark(Mark::RoundClose) = peek(inner.rest) else {
-        return Err(ExprFault::NotAnExpr);
+        return Err(MatchFault::NoMatch);
     };
     Ok(Parsed {
         tree: inner.tree,
@@ -233,7 +234,7 @@ fn bracketed<'a>(alloc: Global, tokens: &'a [Token], below: u8) -> Result<Parsed
 
 // A name, or a call of it.
 #[cycle(expression)]
-fn named<'a>(alloc: Global, tokens: &'a [Token], below: u8) -> Result<Parsed<'a>, ExprFault>
+fn named<'a>(alloc: Global, tokens: &'a [Token], below: u8) -> Result<Parsed<'a>, MatchFault>
     requires { below < 255 }
     ensures found { Gives view result (named_by (parse below) (peek (drop 1 tokens.now)) tokens.now) }
     ensures shallow { IfOk result (λ p. p.height ≤ suc below) }
@@ -252,7 +253,7 @@ fn named<'a>(alloc: Global, tokens: &'a [Token], below: u8) -> Result<Parsed<'a>
 // What stands in the round brackets of a call, the closing one included.
 #[cycle(expression)]
 #[tactic(auto, unfolding(crate::specs::Looks::arguments))]
-fn arguments<'a>(alloc: Global, tokens: &'a [Token], below: u8) -> Result<ParsedList<'a>, ExprFault>
+fn arguments<'a>(alloc: Global, tokens: &'a [Token], below: u8) -> Result<ParsedList<'a>, MatchFault>
     ensures found { Gives view_list result (arguments (parse below) tokens.now) }
     ensures shallow { IfOk result (λ p. p.height ≤ below) }
 {
@@ -271,7 +272,7 @@ fn others<'a>(
     list: ParsedList<'a>,
     turns: usize,
     below: u8,
-) -> Result<ParsedList<'a>, ExprFault>
+) -> Result<ParsedList<'a>, MatchFault>
     requires { list.height ≤ below }
     ensures found { Gives view_list result (others (parse below) turns (view_list list.entry).trees list.entry.height list.entry.rest.now) }
     ensures shallow { IfOk result (λ p. p.height ≤ below) }
@@ -279,15 +280,15 @@ fn others<'a>(
     let mut sofar = list;
     for _turn in 0..turns {
         let token = peek(sofar.rest);
-        if is_round_close(token) {
+        if is_mark(Mark::RoundClose, token) {
             sofar.rest = after(sofar.rest, 1);
             return Ok(sofar);
         }
-        if !is_comma(token) {
-            return Err(ExprFault::NotAnExpr);
+        if !is_mark(Mark::Comma, token) {
+            return Err(MatchFault::NoMatch);
         }
         let next = part(alloc, after(sofar.rest, 1), ANY, below)?;
         sofar = nodes::with_last(sofar, next)?;
     }
-    Err(ExprFault::NotAnExpr)
+    Err(MatchFault::NoMatch)
 }

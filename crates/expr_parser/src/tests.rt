@@ -1,10 +1,10 @@
 // Expressions from their texts.
 
-use crate::{ExprFault, read_expr};
+use crate::read_expr;
 use std::alloc::Global;
 use std::test::Fail;
 use vale_lexer::tokens;
-use vale_syntax::{Expr, Name, UnaryOp, print_expr, printed_as_spelled};
+use vale_syntax::{Expr, MatchFault, Name, UnaryOp, print_expr, printed_as_spelled};
 
 // The expression with each operator before its parts, or why there is none.
 fn shown(alloc: Global, text: &str) -> Result<String, Fail> {
@@ -17,8 +17,8 @@ fn shown(alloc: Global, text: &str) -> Result<String, Fail> {
     let mut out = String::new(alloc);
     match read_expr(alloc, read.as_slice()) {
         Ok(e) => show(alloc, &mut out, &e)?,
-        Err(ExprFault::NotAnExpr) => out.push_str("no")?,
-        Err(ExprFault::NoMemory) => out.push_str("no memory")?,
+        Err(MatchFault::NoMatch) => out.push_str("no")?,
+        Err(MatchFault::NoMemory) => out.push_str("no memory")?,
     }
     Ok(out)
 }

@@ -24,10 +24,11 @@ use Rattle.vale_syntax.specs.Parse.{◌>>=◌}
 use Rattle.vale_syntax.specs.Trees.{Ex, Int, Name}
 use Rattle.vale_syntax.specs.Programs.{Ar, Value, Cl, St, Call, Reads, Modifies, Ensures, De, Procedure, Export}
 use Rattle.vale_syntax.proofs.Sound.{bind_some}
-use Rattle.straight_line.specs.declared.fault.FormFault.{FormFault}
+use Rattle.vale_syntax.specs.declared.fault.MatchFault.{MatchFault}
 use Rattle.straight_line.specs.declared.form.Promise.{Promise}
 use Rattle.straight_line.specs.declared.form.StraightLine.{StraightLine}
-use Rattle.straight_line.specs.Form.{but_rsp, register, among, listed, unless, readable, reads_from, modified, promise, named, signed_word, constant, source, instruction, operands, statement, listed_sts, statements_from, statement_limit, body, clauses_of, are_names, procedure_, pair_of, has, IsSource, IsInstruction, IsStraight, Gives}
+use Rattle.vale_syntax.specs.inner.Matches.{Gives}
+use Rattle.straight_line.specs.Form.{but_rsp, register, among, listed, unless, readable, reads_from, modified, promise, named, signed_word, constant, source, instruction, operands, statement, listed_sts, statements_from, statement_limit, body, clauses_of, are_names, procedure_, pair_of, has, IsSource, IsInstruction, IsStraight}
 
 all_last : {A : Type 0} (P : A → Type 0) (xs : List A) (x : A) → AllByRecursion P xs → P x → AllByRecursion P (xs ++ x ∷ [])
 all_last P [] x h k = (k, tt)
@@ -200,6 +201,6 @@ pair_fits (Procedure s n ps cs xs) (Export t x q args) p h = by_test (((length p
   by_test false e k = absurd cc
 pair_fits _ _ p h = absurd cc
 
-pub pair_given : (d e : De) (r : Result StraightLine FormFault) → Gives r (pair_of d e) → IfOk r IsStraight
+pub pair_given : (d e : De) (r : Result StraightLine MatchFault) → Gives (λ x. x) r (pair_of d e) → IfOk r IsStraight
 pair_given d e (Ok p) h = pair_fits d e p h
 pair_given d e (Err f) h = tt

@@ -17,8 +17,6 @@ use Rattle.vale_syntax.specs.declared.declaration.ReadPlace.{ReadPlace}
 use Rattle.vale_syntax.specs.Parse.{◌>>=◌}
 use Rattle.vale_syntax.specs.Trees.{Ex, Exs, Int, Word, Name, Call as CallOf, Binary, none, more}
 use Rattle.vale_syntax.specs.Programs.{Ar, Value, Cl, St, Sts, Call, no_sts, more_sts, Reads, Modifies, Ensures, De, Procedure, Export}
-use Rattle.straight_line.specs.declared.fault.FormFault.{FormFault}
-use Rattle.straight_line.specs.declared.fault.FormFault.TheVariants.{NotOfForm, NoMemory}
 use Rattle.straight_line.specs.declared.form.Promise.{Promise}
 use Rattle.straight_line.specs.declared.form.Promise.TheVariants.{Constant, Old, Sum}
 use Rattle.straight_line.specs.declared.form.StraightLine.{StraightLine}
@@ -170,12 +168,3 @@ pub record IsStraight (p : StraightLine) : Type 0 where
   pub few : length p.instructions ≤ statement_limit
   pub rsp : has p.registers Rsp ≡ false
   pub each : AllByRecursion (IsInstruction p.registers) p.instructions
-
--- what was returned is what is given, unless memory ran out
-abbrev pub Fails : {A : Type 0} → FormFault → Option A → Type 0
-Fails NotOfForm o = o ≡ None
-Fails NoMemory o = Unit {0}
-
-abbrev pub Gives : {A : Type 0} → Result A FormFault → Option A → Type 0
-Gives (Ok x) o = o ≡ Some x
-Gives (Err e) o = Fails e o

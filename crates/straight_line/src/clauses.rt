@@ -2,14 +2,14 @@
 
 ghost use Rattle.std.specs.Prelude.{◌≡◌, List, [], map};
 ghost use Rattle.vale_syntax.specs.Trees.{tree, exs};
-ghost use Rattle.straight_line.specs.Form.{register, among, listed, named, alone, readable, reads_from, modified, old_of, value, promise, clauses_of, Gives};
+ghost use Rattle.vale_syntax.specs.inner.Matches.{Gives};
+ghost use Rattle.straight_line.specs.Form.{register, among, listed, named, alone, readable, reads_from, modified, old_of, value, promise, clauses_of};
 ghost use Rattle.vale_syntax.specs.Programs.{clause_tree};
 
-use crate::fault::FormFault;
 use crate::form::Promise;
 use sqlite_items::Items;
 use std::alloc::Global;
-use vale_syntax::{BinaryOp, Clause, Expr, Name, ReadPlace};
+use vale_syntax::{BinaryOp, Clause, Expr, Name, ReadPlace, MatchFault};
 use x64_syntax::{Reg, reg_named};
 
 fn register(name: &Name) -> Option<Reg>
@@ -55,14 +55,14 @@ fn readable(before: &[Reg], place: &ReadPlace) -> Option<Reg>
 
 // The registers that are read.
 #[tactic(auto, unfolding(crate::specs::Form::reads_from))]
-fn registers(alloc: Global, places: &[ReadPlace]) -> Result<Items<Reg>, FormFault>
-    ensures { Gives result (reads_from [] places.now) }
+fn registers(alloc: Global, places: &[ReadPlace]) -> Result<Items<Reg>, MatchFault>
+    ensures { Gives (λ x. x) result (reads_from [] places.now) }
 {
     let mut regs = Items::new(alloc);
     for place in places {
         match readable(regs.as_slice(), place) {
             Some(reg) => regs.push(reg)?,
-            None => return Err(FormFault::NotOfForm),
+            None => return Err(MatchFault::NoMatch),
         }
     }
     Ok(regs)
@@ -156,8 +156,8 @@ fn promise(regs: &[Reg], e: &Expr) -> Option<Promise>
 pub(crate) fn read_clauses(
     alloc: Global,
     clauses: &[Clause],
-) -> Result<(Items<Reg>, Promise), FormFault>
-    ensures { Gives result (clauses_of (map clause_tree clauses.now)) }
+) -> Result<(Items<Reg>, Promise), MatchFault>
+    ensures { Gives (λ x. x) result (clauses_of (map clause_tree clauses.now)) }
 {
     match clauses {
         [
@@ -167,13 +167,13 @@ pub(crate) fn read_clauses(
         ] => {
             let regs = registers(alloc, places.as_slice())?;
             if !are_modified(regs.as_slice(), names.as_slice()) {
-                return Err(FormFault::NotOfForm);
+                return Err(MatchFault::NoMatch);
             }
             match promise(regs.as_slice(), e) {
                 Some(promise) => Ok((regs, promise)),
-                None => Err(FormFault::NotOfForm),
+                None => Err(MatchFault::NoMatch),
             }
         }
-        _ => Err(FormFault::NotOfForm),
+        _ => Err(MatchFault::NoMatch),
     }
 }

@@ -2,13 +2,11 @@
 #![tactic(auto)]
 
 mod clauses;
-mod fault;
 mod form;
 mod sources;
 mod statements;
 #[cfg(test)]
 mod tests;
 
-pub use fault::FormFault;
 pub use form::{Promise, StraightLine};
 pub use sources::straight_line;

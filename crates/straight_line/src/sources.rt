@@ -2,15 +2,15 @@
 
 ghost use Rattle.std.specs.Prelude.{◌≡◌, map, IfOk};
 ghost use Rattle.vale_syntax.specs.Programs.{decl_tree, clause_tree, stmt_tree, sts};
-ghost use Rattle.straight_line.specs.Form.{are_names, body, procedure_, pair_of, straight_line, IsStraight, Gives};
+ghost use Rattle.vale_syntax.specs.inner.Matches.{Gives};
+ghost use Rattle.straight_line.specs.Form.{are_names, body, procedure_, pair_of, straight_line, IsStraight};
 
 use crate::clauses::read_clauses;
-use crate::fault::FormFault;
 use crate::form::StraightLine;
 use crate::statements::instructions;
 use sqlite_items::Items;
 use std::alloc::Global;
-use vale_syntax::{Clause, Decl, Name, Stmt};
+use vale_syntax::{Clause, Decl, Name, Stmt, MatchFault};
 use x64_syntax::{Ins, Reg, Text, is_export_name, is_reserved};
 
 /// The most statements that a procedure may have.
@@ -22,14 +22,14 @@ fn are_names(name: &[u8], export: &[u8], procedure: &[u8]) -> bool
     !is_reserved(name) && is_export_name(export) && procedure == name
 }
 
-fn body(alloc: Global, regs: &[Reg], stmts: &[Stmt]) -> Result<Items<Ins>, FormFault>
-    ensures { Gives result (body regs.now (map stmt_tree stmts.now)) }
+fn body(alloc: Global, regs: &[Reg], stmts: &[Stmt]) -> Result<Items<Ins>, MatchFault>
+    ensures { Gives (λ x. x) result (body regs.now (map stmt_tree stmts.now)) }
 {
     let read = instructions(alloc, regs, stmts)?;
     if 1 <= read.len() && read.len() <= STATEMENT_LIMIT {
         Ok(read)
     } else {
-        Err(FormFault::NotOfForm)
+        Err(MatchFault::NoMatch)
     }
 }
 
@@ -39,8 +39,8 @@ fn procedure(
     clauses: &[Clause],
     stmts: &[Stmt],
     export: &Name,
-) -> Result<StraightLine, FormFault>
-    ensures { Gives result (procedure_ name.now.text (map clause_tree clauses.now) (map stmt_tree stmts.now) export.now.text) }
+) -> Result<StraightLine, MatchFault>
+    ensures { Gives (λ x. x) result (procedure_ name.now.text (map clause_tree clauses.now) (map stmt_tree stmts.now) export.now.text) }
 {
     let (registers, promise) = read_clauses(alloc, clauses)?;
     let instructions = body(alloc, registers.as_slice(), stmts)?;
@@ -54,8 +54,8 @@ fn procedure(
 }
 
 #[tactic(auto, using(crate::proofs::Bodies::listed_sts_of))]
-fn pair(alloc: Global, first: &Decl, second: &Decl) -> Result<StraightLine, FormFault>
-    ensures { Gives result (pair_of (decl_tree first.now) (decl_tree second.now)) }
+fn pair(alloc: Global, first: &Decl, second: &Decl) -> Result<StraightLine, MatchFault>
+    ensures { Gives (λ x. x) result (pair_of (decl_tree first.now) (decl_tree second.now)) }
 {
     match (first, second) {
         (
@@ -70,20 +70,20 @@ fn pair(alloc: Global, first: &Decl, second: &Decl) -> Result<StraightLine, Form
             if params.is_empty() && args.is_empty() && are_named {
                 procedure(alloc, name, clauses.as_slice(), stmts.as_slice(), export)
             } else {
-                Err(FormFault::NotOfForm)
+                Err(MatchFault::NoMatch)
             }
         }
-        _ => Err(FormFault::NotOfForm),
+        _ => Err(MatchFault::NoMatch),
     }
 }
 
 /// The procedure that declarations of the form are.
-pub fn straight_line(alloc: Global, decls: &[Decl]) -> Result<StraightLine, FormFault>
-    ensures gives { Gives result (straight_line (map decl_tree decls.now)) }
+pub fn straight_line(alloc: Global, decls: &[Decl]) -> Result<StraightLine, MatchFault>
+    ensures gives { Gives (λ x. x) result (straight_line (map decl_tree decls.now)) }
     ensures fits { IfOk result IsStraight }
 {
     let [procedure, export] = decls else {
-        return Err(FormFault::NotOfForm);
+        return Err(MatchFault::NoMatch);
     };
     pair(alloc, procedure, export)
 }

@@ -3,13 +3,13 @@
 ghost use Rattle.std.specs.Prelude.{◌≡◌, ◌^◌, ◌-◌, ◌≤ℤ◌, pos, negsuc, [], map};
 ghost use Rattle.vale_syntax.specs.Trees.{tree};
 ghost use Rattle.vale_syntax.specs.Programs.{arg_tree, stmt_tree};
-ghost use Rattle.straight_line.specs.Form.{constant, source, instruction, operands, statement, statements_from, Gives};
+ghost use Rattle.vale_syntax.specs.inner.Matches.{Gives};
+ghost use Rattle.straight_line.specs.Form.{constant, source, instruction, operands, statement, statements_from};
 
 use crate::clauses::named;
-use crate::fault::FormFault;
 use sqlite_items::Items;
 use std::alloc::Global;
-use vale_syntax::{Arg, Expr, Stmt};
+use vale_syntax::{Arg, Expr, Stmt, MatchFault};
 use x64_syntax::{AluOp, Ins, Opr, Reg};
 
 // A constant from `lowest` on and below `end`, as the number with a sign that is the same word.
@@ -83,14 +83,14 @@ pub(crate) fn instructions(
     alloc: Global,
     regs: &[Reg],
     stmts: &[Stmt],
-) -> Result<Items<Ins>, FormFault>
-    ensures { Gives result (statements_from regs.now [] (map stmt_tree stmts.now)) }
+) -> Result<Items<Ins>, MatchFault>
+    ensures { Gives (λ x. x) result (statements_from regs.now [] (map stmt_tree stmts.now)) }
 {
     let mut read = Items::new(alloc);
     for stmt in stmts {
         match statement(regs, stmt) {
             Some(ins) => read.push(ins)?,
-            None => return Err(FormFault::NotOfForm),
+            None => return Err(MatchFault::NoMatch),
         }
     }
     Ok(read)

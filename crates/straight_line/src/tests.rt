@@ -1,10 +1,11 @@
 // The form, from texts.
 
-use crate::{FormFault, Promise, straight_line};
+use crate::{Promise, straight_line};
 use std::alloc::Global;
 use std::test::Fail;
 use vale_lexer::tokens;
 use vale_parser::read_decls;
+use vale_syntax::MatchFault;
 use x64_syntax::{Ins, Opr};
 
 // The parts of the procedure that a text is, or why it is none.
@@ -20,8 +21,8 @@ fn shown(alloc: Global, text: &str) -> Result<String, Fail> {
     };
     let line = match straight_line(alloc, decls.as_slice()) {
         Ok(line) => line,
-        Err(FormFault::NotOfForm) => return Ok(format!(in alloc; "no")?),
-        Err(FormFault::NoMemory) => return Ok(format!(in alloc; "no memory")?),
+        Err(MatchFault::NoMatch) => return Ok(format!(in alloc; "no")?),
+        Err(MatchFault::NoMemory) => return Ok(format!(in alloc; "no memory")?),
     };
     let mut out = String::new(alloc);
     show_text(alloc, &mut out, line.name.as_bytes())?;

@@ -12,11 +12,11 @@ ghost use Rattle.vale_driver.specs.Stops.{StopsBy, SourcesSpell, SourcesRefused}
 use crate::status::Refusal;
 use crate::stop::{Stop, fetch, refusal};
 use std::alloc::{AllocError, Global};
-use straight_line::{FormFault, StraightLine, straight_line};
+use straight_line::{StraightLine, straight_line};
 use vale_lexer::{LexFault, tokens};
 use vale_outside::Store;
 use vale_parser::{ParseFault, read_decls};
-use vale_syntax::{Decl, Token};
+use vale_syntax::{Decl, MatchFault, Token};
 use x64_syntax::Text;
 
 /// The most bytes of a source file.
@@ -149,7 +149,7 @@ pub(crate) fn read_sources<S: Store>(
     let decls = parse_all(alloc, &scanned)?;
     match straight_line(alloc, &decls) {
         Ok(program) => Ok(program),
-        Err(FormFault::NotOfForm) => Err(Stop::Refused(no_form(alloc, files)?)),
-        Err(FormFault::NoMemory) => Err(Stop::NoMemory),
+        Err(MatchFault::NoMatch) => Err(Stop::Refused(no_form(alloc, files)?)),
+        Err(MatchFault::NoMemory) => Err(Stop::NoMemory),
     }
 }

@@ -6,7 +6,7 @@ ghost use Rattle.vale_lexer.specs.Lexes.{Fits};
 
 use crate::class::{Class, run_len};
 use crate::number::number;
-use vale_syntax::{Front, MARKS, Mark, NotAToken, TokenKind};
+use vale_syntax::{Front, MARKS, Mark, NotAToken, TokenKind, table_of_marks};
 use x64_syntax::{is_digit, is_name_part};
 
 /// What stands at the front: a blank or comment, else the longest token that begins there.
@@ -77,6 +77,7 @@ fn other(bytes: &[u8]) -> Front
     if begins(bytes, b"/*") {
         return comment(bytes.split_at(2).1);
     }
+    table_of_marks();
     mark(&MARKS, bytes)
 }
 

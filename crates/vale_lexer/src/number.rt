@@ -1,11 +1,11 @@
 // Numbers.
 
 ghost use Rattle.std.specs.Prelude.{◌≡◌, ◌≤◌, ◌<◌, ◌+◌, ◌*◌, ◌^◌, length};
-ghost use Rattle.vale_syntax.specs.Tokens.{number, hex_len, suffixed, below, value, wide, digit};
+ghost use Rattle.vale_syntax.specs.Tokens.{number, hex_len, suffixed, below, value, wide, digit, whole_limit, word_limit, wide_limit};
 ghost use Rattle.vale_syntax.specs.declared.token.TokenKind.TheVariants as kind;
 
 use crate::class::{Class, run_len};
-use vale_syntax::{Front, NotAToken, TokenKind};
+use vale_syntax::{Front, NotAToken, TokenKind, WHOLE_LIMIT, WORD_LIMIT};
 use x64_syntax::is_digit;
 
 /// A number at the front, by its digits and its suffix.
@@ -37,7 +37,7 @@ fn hex_len(bytes: &[u8]) -> usize
     }
 }
 
-// What digits write, where it is below 2^128.
+// What digits write, where some kind of number may be so large.
 fn value(radix: u8, digits: &[u8]) -> Option<u128>
     requires small { radix ≤ 16 }
     requires positive { 1 ≤ radix }
@@ -84,25 +84,25 @@ fn suffixed(value: Option<u128>, len: usize, rest: &[u8]) -> Front
 }
 
 fn int(value: Option<u128>, len: usize) -> Front
-    ensures { result ≡ below (2 ^ 127) kind.Int len value }
+    ensures { result ≡ below whole_limit kind.Int len value }
 {
     match value {
-        Some(n) if n < 1 << 127 => Front::Taken(TokenKind::Int(n), len),
+        Some(n) if n < WHOLE_LIMIT => Front::Taken(TokenKind::Int(n), len),
         _ => Front::Stopped(NotAToken::NumberTooLarge),
     }
 }
 
 fn word(value: Option<u128>, len: usize) -> Front
-    ensures { result ≡ below (2 ^ 64) kind.Word len value }
+    ensures { result ≡ below word_limit kind.Word len value }
 {
     match value {
-        Some(n) if n < 1 << 64 => Front::Taken(TokenKind::Word(n as u64), len),
+        Some(n) if n < WORD_LIMIT => Front::Taken(TokenKind::Word(n as u64), len),
         _ => Front::Stopped(NotAToken::NumberTooLarge),
     }
 }
 
 fn wide(value: Option<u128>, len: usize) -> Front
-    ensures { result ≡ below (2 ^ 128) kind.Wide len value }
+    ensures { result ≡ below wide_limit kind.Wide len value }
 {
     match value {
         Some(n) => Front::Taken(TokenKind::Wide(n), len),

@@ -7,7 +7,8 @@ use Rattle.vale_syntax.specs.declared.mark.Mark.TheVariants as mark
 use Rattle.vale_syntax.specs.Peek.{peek}
 use Rattle.vale_syntax.specs.Programs.{Sts, more_sts, stmt_tree, sts, LSts, more_lsts, lstmt_tree, lsts}
 use Rattle.vale_syntax.specs.Statements.{sts_last, lsts_last}
-use Rattle.vale_parser.specs.Parts.{bind, is_mark}
+use Rattle.vale_syntax.specs.inner.Marks.{is_mark}
+use Rattle.vale_parser.specs.Parts.{bind}
 use Rattle.vale_parser.specs.Productions.{Stated, bodied, Statements, statement_by, statement, body, LStated, lbodied, LStatements, lstatement_by, lstatement, lbody}
 
 body_turn : (sub : Statements) (n m : ℕ) (xs : Sts) (d : ℕ) (ts : List Token) (b : Bool) → n ≡ suc m → b ≡ is_mark mark.BraceClose (peek ts)

@@ -21,14 +21,16 @@ use Rattle.vale_syntax.specs.declared.declaration.ReadPlace.{ReadPlace}
 use Rattle.vale_syntax.specs.Operators.{any}
 use Rattle.vale_syntax.specs.Peek.{peek, spot_of}
 use Rattle.vale_syntax.specs.Trees.{Ex}
-use Rattle.vale_syntax.specs.Expressions.{name_of, depth_limit}
+use Rattle.vale_syntax.specs.Expressions.{Spells, name_of, depth_limit}
 use Rattle.vale_syntax.specs.Parse.{◌>>=◌ as ◌>=>◌}
 use Rattle.vale_syntax.specs.Statements.{Expression, sort_at}
 use Rattle.vale_syntax.specs.Declarations.{IsName, name as is_name_, IsBind, bind as is_bind, secret, open_, IsPlace, place as is_place, IsParam, operand, out, inline_, ghost_, block as is_block, kind_at, direction_by}
 use Rattle.vale_syntax.proofs.Complete.{loose, found}
 use Rattle.vale_syntax.proofs.Grows.{spells_short}
-use Rattle.expr_parser.specs.Reads.{expression}
-use Rattle.vale_parser.specs.Parts.{bind as and_then, mark_eq, expect, before}
+use Rattle.expr_parser.specs.Reads.{expression as expression_front}
+use Rattle.vale_parser.specs.Productions.{plain_only, expression}
+use Rattle.vale_syntax.specs.inner.Marks.{mark_eq}
+use Rattle.vale_parser.specs.Parts.{bind as and_then, expect, before}
 use Rattle.vale_parser.specs.Productions.{asked, is_name, is_secret, name, sort_behind, kind_behind, bind, place_at, place, operand_at, out_at, inline_by, inline_at, ghost_at, block_at, guarded_by, guarded, param_by, parameter}
 use Rattle.vale_parser.proofs.Parts.{bound, expect_found}
 
@@ -55,9 +57,13 @@ dd (suc m) n (t ∷ ts) = dd m n ts ∙ ap (λ k. drop k (t ∷ ts)) (next m n)
 unfoldable pub Ends : Lookahead → Type 0
 Ends f = suc any < loose f
 
+-- what is spelled is found, and taken where it has no stamped names
+pub expression_front_found : {d : ℕ} {ts : List Token} {x : Ex} {rest : List Token} → Spells any d ts x rest → d ≤ depth_limit → Ends (peek rest) → expression ts ≡ plain_only ts (x, rest)
+unfolding expression_front Ends
+expression_front_found {ts = ts} s shallow h = ap (λ o. and_then (o >=> λ g. Some (g.tree, g.rest)) (plain_only ts)) (found s depth_limit shallow h)
+
 pub expression_found : (ts : List Token) (x : Ex) (rest : List Token) → Expression ts x rest → Ends (peek rest) → expression ts ≡ Some (x, rest)
-unfolding expression Ends
-expression_found ts x rest e h = ap (λ o. o >=> λ g. Some (g.tree, g.rest)) (found e.spelled depth_limit e.shallow h)
+expression_found ts x rest e h = expression_front_found e.spelled e.shallow h ∙ ap (λ b. asked b (Some (x, rest))) e.plain
 
 pub expression_short : (ts : List Token) (x : Ex) (rest : List Token) → Expression ts x rest → length rest ≤ length ts
 expression_short ts x rest e = spells_short e.spelled

@@ -1,6 +1,7 @@
 -- Arguments that are spelled are found.
 use Rattle.std.proofs.Common.{◌≡◌, ℕ, suc, ◌<◌, ◌≤◌, Bool, true, false, cond, List, length, drop, length-drop, Some, refl, sym, ◌∙◌, ap, subst, arith}
 use Rattle.std.specs.Prelude.{◌&&◌}
+use Rattle.std.specs.List.{list_all}
 use Rattle.std.proofs.lemmas.Bool.{and_parts, false≢true}
 use Rattle.vale_syntax.specs.declared.token.Token.{Token}
 use Rattle.vale_syntax.specs.declared.mark.Mark.TheVariants as mark
@@ -12,15 +13,17 @@ use Rattle.vale_syntax.specs.Peek.{peek}
 use Rattle.vale_syntax.specs.Trees.{Ex}
 use Rattle.vale_syntax.specs.Expressions.{name_of, leaf_by, leaf, Spells, not_, negative, minus, postfix, operations, Chain, chain_end, operation, Indexed, index_end, index, token, call, brackets}
 use Rattle.vale_syntax.specs.Programs.{Ar, Memory, Value}
-use Rattle.vale_syntax.specs.Statements.{Expression, Argument, memory, value}
+use Rattle.vale_syntax.specs.Statements.{is_plain, tokens_before, Expression, Argument, memory, value}
 use Rattle.vale_syntax.proofs.Complete.{loose}
 use Rattle.vale_syntax.proofs.Grows.{chain_grows, indexed_grows}
-use Rattle.expr_parser.specs.Reads.{expression}
-use Rattle.vale_parser.specs.Parts.{bind as and_then, is_mark, expect, before, separated}
-use Rattle.vale_parser.specs.Productions.{is_name, memory_at, value_at, argument_by, argument}
+use Rattle.vale_parser.specs.Productions.{expression}
+use Rattle.vale_syntax.specs.inner.Marks.{is_mark}
+use Rattle.vale_parser.specs.Parts.{bind as and_then, expect, before, separated}
+use Rattle.vale_parser.specs.Productions.{asked, is_name, memory_at, value_at, argument_by, argument}
 use Rattle.vale_parser.proofs.Sound.{is_name_is}
-use Rattle.vale_parser.proofs.Parts.{bound, peek_is, expect_found, separated_found, separated_short}
-use Rattle.vale_parser.proofs.Found.{dd, Ends, expression_found, expression_short}
+use Rattle.vale_syntax.proofs.MarkTests.{peek_is}
+use Rattle.vale_parser.proofs.Parts.{bound, expect_found, separated_found, separated_short}
+use Rattle.vale_parser.proofs.Found.{dd, Ends, expression_front_found, expression_found, expression_short}
 
 leaf_starts : (f : Lookahead) (ts : List Token) (x : Ex) → leaf_by f ts ≡ Some x → is_mark mark.RoundClose f ≡ false
 leaf_starts (see.Mark m) ts x h = absurd cc
@@ -114,15 +117,21 @@ argument_found ts a rest (memory {mid = mid} {rest = r} {i = i} {a = xs} p q h s
     refl)
 argument_found ts a rest (value {x = x} e) f = by_test (is_name (peek ts) && is_mark mark.SquareOpen (peek (drop 1 ts))) refl
   where
+    -- whether the index has stamped names or not, no memory operand follows
+    by_plain : {d : ℕ} (i : IndexAt ts d) (b : Bool) → argument_by (asked b (Some (i.tree, i.mid))) ts ≡ Some (Value x, rest)
+    by_plain i false = value_found ts x rest e f.0
+    by_plain i true =
+        ap (λ b. cond (b && is_mark mark.At (peek (drop 1 i.mid))) (memory_at (name_of ts) i.tree (drop 2 i.mid)) (value_at ts)) (ap (is_mark mark.SquareClose) i.closes)
+        ∙ ap (λ b. cond b (memory_at (name_of ts) i.tree (drop 2 i.mid)) (value_at ts)) i.no_at
+        ∙ value_found ts x rest e f.0
+
     by_index : is_name (peek ts) ≡ true → is_mark mark.SquareOpen (peek (drop 1 ts)) ≡ true → argument_by (expression (drop 2 ts)) ts ≡ Some (Value x, rest)
     by_index a b =
         let i = first_index e.spelled (is_name_is (peek ts) a) (peek_is mark.SquareOpen (peek (drop 1 ts)) b) f.1 f.2 in
         let low = i.shallow in
         let high = e.shallow in
-        ap (λ o. argument_by o ts) (expression_found (drop 2 ts) i.tree i.mid (record { depth = i.depth; shallow = omega (arith, low, high); spelled = i.spelled }) (subst (λ f. suc any < loose f) (sym i.closes) (omega arith)))
-        ∙ ap (λ b. cond (b && is_mark mark.At (peek (drop 1 i.mid))) (memory_at (name_of ts) i.tree (drop 2 i.mid)) (value_at ts)) (ap (is_mark mark.SquareClose) i.closes)
-        ∙ ap (λ b. cond b (memory_at (name_of ts) i.tree (drop 2 i.mid)) (value_at ts)) i.no_at
-        ∙ value_found ts x rest e f.0
+        ap (λ o. argument_by o ts) (expression_front_found i.spelled (omega (arith, low, high)) (subst (λ f. suc any < loose f) (sym i.closes) (omega arith)))
+        ∙ by_plain i (list_all is_plain (tokens_before i.mid (drop 2 ts)))
 
     by_test : (t : Bool) → (is_name (peek ts) && is_mark mark.SquareOpen (peek (drop 1 ts))) ≡ t → cond t (argument_by (expression (drop 2 ts)) ts) (value_at ts) ≡ Some (Value x, rest)
     by_test false h = value_found ts x rest e f.0

@@ -18,8 +18,9 @@ use Rattle.vale_syntax.specs.Lists.{Closed, Separated, Many}
 use Rattle.vale_syntax.specs.Programs.{Sts, LSts, Cl, Reads, Modifies, Requires, Ensures, Stack, Abi, LCl, LRequires, LEnsures, LDecreases, De, Procedure, Lemma, Function, Export}
 use Rattle.vale_syntax.specs.Statements.{Expression, sort_at, Block, block as st_block, LBlock, lblock as st_lblock, statement_limit}
 use Rattle.vale_syntax.specs.Declarations.{IsName, name as is_name_, IsBind, bind as is_bind, IsSecret, secret, open_, IsPlace, place as is_place, IsParam, operand, out, inline_, ghost_, block as is_block, direction_by, abi_at, IsClause, reads, modifies, requires_, ensures_, stack, abi_, IsLClause, lrequires, lensures, ldecreases, Head, Declaration, procedure_ as is_procedure, lemma_ as is_lemma, function_ as is_function, recursive, export_ as is_export}
-use Rattle.expr_parser.specs.Reads.{expression}
-use Rattle.vale_parser.specs.Parts.{bind as and_then, is_mark, expect, before, separated, closed, many}
+use Rattle.vale_parser.specs.Productions.{expression}
+use Rattle.vale_syntax.specs.inner.Marks.{is_mark}
+use Rattle.vale_parser.specs.Parts.{bind as and_then, expect, before, separated, closed, many}
 use Rattle.vale_parser.specs.Productions.{asked, is_zero, is_step, name, sort_behind, bind, place, parameter, expression_end, clause_by, clause, begins_clause, lclause_by, lclause, begins_lclause, head, block, statement, lblock, lstatement, bodied, lbodied, Header, header, result_by, result_at, declaration_by, declaration}
 use Rattle.vale_parser.proofs.Parts.{bound, word_left, separated_found, separated_short, closed_found, closed_short, many_found, many_short}
 use Rattle.vale_parser.proofs.Found.{dd, Ends, expression_found, expression_short, semicolon_found, is_name_found, sort_behind_found, bind_found, place_found, parameter_found}

@@ -10,8 +10,9 @@ use Rattle.vale_syntax.specs.Expressions.{name_of}
 use Rattle.vale_syntax.specs.Lists.{Closed}
 use Rattle.vale_syntax.specs.Programs.{LSt, LSts, no_lsts, LArm, no_larm, larm, LCall, LAssert, LIf}
 use Rattle.vale_syntax.specs.Statements.{Expression, lsts_last, LStatement, lcall as is_lcall, lassert, lif, LBlock, lblock as is_lblock, LBody, lended, lfurther, LElse, labsent, lpresent}
-use Rattle.expr_parser.specs.Reads.{expression}
-use Rattle.vale_parser.specs.Parts.{bind as and_then, is_mark, expect, before, closed}
+use Rattle.vale_parser.specs.Productions.{expression}
+use Rattle.vale_syntax.specs.inner.Marks.{is_mark}
+use Rattle.vale_parser.specs.Parts.{bind as and_then, expect, before, closed}
 use Rattle.vale_parser.specs.Productions.{is_else, expression_end, test, LStated, LStatements, lstated, lbodied, larmed, lbranches, lbody, lblock, lelse_by, larms, lstatement_by, lstatement}
 use Rattle.vale_parser.proofs.Parts.{bound, expect_found, mark_left, word_left, closed_found, closed_short}
 use Rattle.vale_parser.proofs.Found.{Ends, expression_found, expression_short, semicolon_found}

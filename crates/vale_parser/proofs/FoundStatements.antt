@@ -13,8 +13,9 @@ use Rattle.vale_syntax.specs.Lists.{Many}
 use Rattle.vale_syntax.specs.Programs.{St, Sts, no_sts, Arm, no_arm, arm, Call, Assert, Ghost, Assign, If, While, InlineIf}
 use Rattle.vale_syntax.specs.Statements.{sort_at, sts_last, Argument, Invariant, invariant_ as is_invariant_, Simple, call, assert_, ghost_, assign, Test, test as is_test, Statement, simple as is_simple, if_, while_, inline_if, Block, block as is_block, Body, ended, further, Else, absent, present}
 use Rattle.vale_syntax.proofs.Complete.{loose}
-use Rattle.expr_parser.specs.Reads.{expression}
-use Rattle.vale_parser.specs.Parts.{bind as and_then, mark_eq, is_mark, expect, before, closed, many}
+use Rattle.vale_parser.specs.Productions.{expression}
+use Rattle.vale_syntax.specs.inner.Marks.{mark_eq, is_mark}
+use Rattle.vale_parser.specs.Parts.{bind as and_then, expect, before, closed, many}
 use Rattle.vale_parser.specs.Productions.{asked, is_if, is_else, is_invariant, is_decreases, name, sort_behind, expression_end, argument, invariant_, test, named_by, simple_by, simple, Stated, stated, bodied, armed, branches, Statements, body, block, else_by, arms, inline_if_at, loop_at, shallow, statement_by, statement}
 use Rattle.vale_parser.proofs.Parts.{bound, expect_found, mark_left, word_left, closed_found, closed_short, many_found, many_short}
 use Rattle.vale_parser.proofs.Found.{dd, Ends, expression_short, semicolon_found, round_found, name_found, sort_behind_found}

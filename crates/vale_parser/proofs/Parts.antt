@@ -10,7 +10,9 @@ use Rattle.vale_syntax.specs.declared.lookahead.Lookahead.{Lookahead}
 use Rattle.vale_syntax.specs.declared.lookahead.Lookahead.TheVariants as see
 use Rattle.vale_syntax.specs.Peek.{peek}
 use Rattle.vale_syntax.specs.Lists.{Relation, Commas, last, next, Separated, separated as is_separated, Closed, empty, filled, Many, enough, again}
-use Rattle.vale_parser.specs.Parts.{bind, Parser, mark_eq, is_mark, expect, before, commas, separated, closed, many}
+use Rattle.vale_syntax.specs.inner.Marks.{mark_eq, is_mark}
+use Rattle.vale_syntax.proofs.MarkTests.{peek_is}
+use Rattle.vale_parser.specs.Parts.{bind, Parser, expect, before, commas, separated, closed, many}
 
 pub bind_some : {A B : Type 0} (o : Option A) (f : A → Option B) (y : B) → bind o f ≡ Some y → (x : A) × (o ≡ Some x) × (f x ≡ Some y)
 bind_some (Some x) f y h = (x, refl, h)
@@ -18,26 +20,6 @@ bind_some None f y h = absurd cc
 
 pub bound : {A B : Type 0} (o : Option A) (x : A) (f : A → Option B) (y : Option B) → o ≡ Some x → f x ≡ y → bind o f ≡ y
 bound o x f y p q = ap (λ o. bind o f) p ∙ q
-
-mark_is : (m n : Mark) → mark_eq m n ≡ true → n ≡ m
-mark_is mark.RoundOpen mark.RoundOpen h = refl
-mark_is mark.RoundClose mark.RoundClose h = refl
-mark_is mark.SquareOpen mark.SquareOpen h = refl
-mark_is mark.SquareClose mark.SquareClose h = refl
-mark_is mark.BraceOpen mark.BraceOpen h = refl
-mark_is mark.BraceClose mark.BraceClose h = refl
-mark_is mark.Comma mark.Comma h = refl
-mark_is mark.Semicolon mark.Semicolon h = refl
-mark_is mark.Colon mark.Colon h = refl
-mark_is mark.Equals mark.Equals h = refl
-mark_is mark.Assign mark.Assign h = refl
-mark_is mark.Bang mark.Bang h = refl
-mark_is mark.At mark.At h = refl
-mark_is _ _ h = absurd (false≢true h)
-
-pub peek_is : (m : Mark) (f : Lookahead) → is_mark m f ≡ true → f ≡ see.Mark m
-peek_is m (see.Mark n) h = ap see.Mark (mark_is m n h)
-peek_is m _ h = absurd (false≢true h)
 
 pub expected : (m : Mark) (ts rest : List Token) → expect m ts ≡ Some rest → (peek ts ≡ see.Mark m) × (drop 1 ts ≡ rest)
 expected m ts rest h = by_test (is_mark m (peek ts)) refl h

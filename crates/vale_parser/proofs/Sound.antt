@@ -4,6 +4,8 @@ use Rattle.std.specs.Prelude.{◌&&◌}
 use Rattle.std.proofs.lemmas.Bool.{and_parts, false≢true}
 use Rattle.std.proofs.lemmas.Option.{same_Some}
 use Rattle.x64_syntax.specs.declared.keywords.Keyword.TheVariants as word
+use Rattle.std.specs.List.{list_all}
+use Rattle.vale_syntax.specs.declared.spot.Spot.{Spot}
 use Rattle.vale_syntax.specs.declared.token.Token.{Token}
 use Rattle.vale_syntax.specs.declared.mark.Mark.{Mark}
 use Rattle.vale_syntax.specs.declared.mark.Mark.TheVariants as mark
@@ -22,17 +24,20 @@ use Rattle.vale_syntax.specs.declared.declaration.ReadPlace.{ReadPlace}
 use Rattle.vale_syntax.specs.Operators.{any}
 use Rattle.vale_syntax.specs.Peek.{peek, spot_of}
 use Rattle.vale_syntax.specs.Trees.{Ex}
-use Rattle.vale_syntax.specs.Expressions.{name_of, depth_limit}
+use Rattle.vale_syntax.specs.Expressions.{Spells, name_of, depth_limit}
 use Rattle.vale_syntax.specs.Parse.{parse}
 use Rattle.vale_syntax.specs.Lists.{Relation}
 use Rattle.vale_syntax.specs.Programs.{Ar, Memory, Value}
-use Rattle.vale_syntax.specs.Statements.{Expression, sort_at, Argument, memory, value, Invariant, invariant_ as is_invariant_, Test, test as is_test}
+use Rattle.vale_syntax.specs.Statements.{is_plain, tokens_before, Expression, sort_at, Argument, memory, value, Invariant, invariant_ as is_invariant_, Test, test as is_test}
 use Rattle.vale_syntax.specs.Declarations.{IsName, name as is_name_, IsBind, bind as is_bind, IsSecret, secret, open_, IsPlace, place as is_place, IsParam, operand, out, inline_, ghost_, block as is_block, kind_at, direction_by}
 use Rattle.vale_syntax.proofs.Sound.{bind_some as parse_some, sound}
-use Rattle.expr_parser.specs.Reads.{expression}
-use Rattle.vale_parser.specs.Parts.{bind as and_then, is_mark, expect, before, separated}
+use Rattle.expr_parser.specs.Reads.{expression as expression_front}
+use Rattle.vale_parser.specs.Productions.{plain_only, expression}
+use Rattle.vale_syntax.specs.inner.Marks.{is_mark}
+use Rattle.vale_parser.specs.Parts.{bind as and_then, expect, before, separated}
 use Rattle.vale_parser.specs.Productions.{asked, is_name, is_secret, is_invariant, name, sort_behind, kind_behind, bind, place_at, place, inline_by, guarded_by, param_by, parameter, memory_at, value_at, argument_by, argument, expression_end, invariant_, test}
-use Rattle.vale_parser.proofs.Parts.{bind_some, peek_is, expected, separated_sound}
+use Rattle.vale_syntax.proofs.MarkTests.{peek_is}
+use Rattle.vale_parser.proofs.Parts.{bind_some, expected, separated_sound}
 use Rattle.vale_parser.proofs.Found.{dd}
 
 pub pair_of : {A : Type 0} (p q : A × List Token) → Some p ≡ Some q → (p.0 ≡ q.0) × (p.1 ≡ q.1)
@@ -101,11 +106,14 @@ before_is m o x rest h =
     (u.1, a ∙ ap (λ z. Some (z, u.1)) f.0, e.0, e.1 ∙ f.1)
 
 pub expression_sound : (ts : List Token) (x : Ex) (rest : List Token) → expression ts ≡ Some (x, rest) → Expression ts x rest
-unfolding expression
+unfolding expression_front
 expression_sound ts x rest h =
-    let (g, p, q) = parse_some (parse depth_limit any ts) (λ g. Some (g.tree, g.rest)) (x, rest) h in
+    let (u, a, b) = bind_some (expression_front ts) (plain_only ts) (x, rest) h in
+    let (g, p, q) = parse_some (parse depth_limit any ts) (λ g. Some (g.tree, g.rest)) u a in
     let s = sound depth_limit any ts g p in
-    finish Expression ts (g.tree, g.rest) (x, rest) q (record { depth = g.height; shallow = s.0; spelled = s.1 })
+    let plain = on_asked (list_all is_plain (tokens_before u.1 ts)) (Some u) (x, rest) b in
+    let same = pair_of (g.tree, g.rest) u q in
+    finish Expression ts u (x, rest) plain.1 (record { depth = g.height; shallow = s.0; spelled = subst (λ y. Spells any g.height ts y u.1) same.0 (subst (λ l. Spells any g.height ts g.tree l) same.1 s.1); plain = plain.0 })
 
 pub name_sound : (ts : List Token) (n : Name) (rest : List Token) → name ts ≡ Some (n, rest) → IsName ts n rest
 name_sound ts n rest h = let a = on_asked (is_name (peek ts)) (Some (name_of ts, drop 1 ts)) (n, rest) h in finish IsName ts (name_of ts, drop 1 ts) (n, rest) a.1 (is_name_ (is_name_is _ a.0))

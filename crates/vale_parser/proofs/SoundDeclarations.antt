@@ -16,7 +16,7 @@ use Rattle.vale_syntax.specs.Lists.{Closed}
 use Rattle.vale_syntax.specs.Programs.{Cl, Reads, Modifies, Requires, Ensures, Stack, Abi, LCl, LRequires, LEnsures, LDecreases, De, Procedure, Lemma, Function, Export}
 use Rattle.vale_syntax.specs.Statements.{Expression, sort_at, statement_limit}
 use Rattle.vale_syntax.specs.Declarations.{IsName, IsBind, IsPlace, IsParam, abi_at, IsClause, reads, modifies, requires_, ensures_, stack, abi_, IsLClause, lrequires, lensures, ldecreases, Head, Declaration, procedure_ as is_procedure, lemma_ as is_lemma, function_ as is_function, recursive, export_ as is_export}
-use Rattle.expr_parser.specs.Reads.{expression}
+use Rattle.vale_parser.specs.Productions.{expression}
 use Rattle.vale_parser.specs.Parts.{bind as and_then, expect, before, separated, closed, many}
 use Rattle.vale_parser.specs.Productions.{asked, is_zero, is_step, name, sort_behind, bind, place, parameter, expression_end, clause_by, clause, begins_clause, lclause_by, lclause, begins_lclause, head, block, statement, lblock, lstatement, procedure_, lemma_, header, result_by, result_at, function_, export_, declaration_by, declaration}
 use Rattle.vale_parser.proofs.Parts.{bind_some, separated_sound, closed_sound, many_sound}

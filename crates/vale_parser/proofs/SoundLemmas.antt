@@ -10,10 +10,12 @@ use Rattle.vale_syntax.specs.Peek.{peek, spot_of}
 use Rattle.vale_syntax.specs.Expressions.{name_of}
 use Rattle.vale_syntax.specs.Programs.{LSts, no_lsts, no_larm, larm, LCall, LAssert, LIf}
 use Rattle.vale_syntax.specs.Statements.{Expression, lsts_last, LStatement, lcall as is_lcall, lassert, lif, LBlock, lblock as is_lblock, LBody, lended, lfurther, LElse, labsent, lpresent}
-use Rattle.expr_parser.specs.Reads.{expression}
-use Rattle.vale_parser.specs.Parts.{bind as and_then, is_mark, before, closed}
+use Rattle.vale_parser.specs.Productions.{expression}
+use Rattle.vale_syntax.specs.inner.Marks.{is_mark}
+use Rattle.vale_parser.specs.Parts.{bind as and_then, before, closed}
 use Rattle.vale_parser.specs.Productions.{is_else, test, lcall, LStated, LBodied, LArmed, LBranches, lstated, lbodied, larmed, lbranches, LStatements, lbody, lblock, lelse_by, larms, lif_at, lstatement_by, lstatement}
-use Rattle.vale_parser.proofs.Parts.{bind_some, peek_is, closed_sound}
+use Rattle.vale_syntax.proofs.MarkTests.{peek_is}
+use Rattle.vale_parser.proofs.Parts.{bind_some, closed_sound}
 use Rattle.vale_parser.proofs.Sound.{on_expect, on_before, expression_sound, test_sound}
 use Rattle.vale_parser.proofs.SoundStatements.{else_is}
 

@@ -11,10 +11,12 @@ use Rattle.vale_syntax.specs.Peek.{peek, spot_of}
 use Rattle.vale_syntax.specs.Expressions.{name_of}
 use Rattle.vale_syntax.specs.Programs.{St, Sts, no_sts, no_arm, arm, Call, Assert, Ghost, Assign, If, While, InlineIf}
 use Rattle.vale_syntax.specs.Statements.{sts_last, Argument, Invariant, Simple, call, assert_, ghost_, assign, Statement, simple as is_simple, if_, while_, inline_if, Block, block as is_block, Body, ended, further, Else, absent, present}
-use Rattle.expr_parser.specs.Reads.{expression}
-use Rattle.vale_parser.specs.Parts.{bind as and_then, is_mark, expect, before, closed, many}
+use Rattle.vale_parser.specs.Productions.{expression}
+use Rattle.vale_syntax.specs.inner.Marks.{is_mark}
+use Rattle.vale_parser.specs.Parts.{bind as and_then, expect, before, closed, many}
 use Rattle.vale_parser.specs.Productions.{asked, is_if, is_else, is_invariant, is_decreases, sort_behind, expression_end, argument, invariant_, test, named_by, simple_by, simple, Stated, Bodied, Armed, Branches, stated, bodied, armed, branches, Statements, body, block, else_by, arms, if_at, inline_if_at, loop_at, shallow, statement_by, statement}
-use Rattle.vale_parser.proofs.Parts.{bind_some, peek_is, closed_sound, many_sound}
+use Rattle.vale_syntax.proofs.MarkTests.{peek_is}
+use Rattle.vale_parser.proofs.Parts.{bind_some, closed_sound, many_sound}
 use Rattle.vale_parser.proofs.Sound.{finish, on_asked, on_name, on_expect, on_sort, on_before, before_is, expression_sound, argument_sound, invariant_sound, test_sound}
 
 named_sound : (ts : List Token) (x : St) (rest : List Token) → peek ts ≡ see.Name → (f : Lookahead) → peek (drop 1 ts) ≡ f → named_by f ts ≡ Some (x, rest) → Simple ts x rest

@@ -8,10 +8,11 @@ use Rattle.vale_syntax.specs.declared.token.Token.{Token}
 use Rattle.vale_syntax.specs.declared.mark.Mark.TheVariants as mark
 use Rattle.vale_syntax.specs.declared.lookahead.Lookahead.{Lookahead}
 use Rattle.vale_syntax.specs.Peek.{peek}
-use Rattle.vale_parser.specs.declared.fault.PartFault.{PartFault}
-use Rattle.vale_parser.specs.declared.fault.PartFault.TheVariants.{NotAPart, NoMemory}
-use Rattle.vale_parser.specs.Parts.{bind, Parser, is_mark, before, commas, separated, closed, many}
-use Rattle.vale_parser.specs.Reads.{Gives}
+use Rattle.vale_syntax.specs.declared.fault.MatchFault.{MatchFault}
+use Rattle.vale_syntax.specs.declared.fault.MatchFault.TheVariants.{NoMatch, NoMemory}
+use Rattle.vale_syntax.specs.inner.Marks.{is_mark}
+use Rattle.vale_parser.specs.Parts.{bind, Parser, before, commas, separated, closed, many}
+use Rattle.vale_syntax.specs.inner.Matches.{Gives}
 use Rattle.vale_parser.specs.Things.{Thing, tagged}
 
 -- a list that was found, as things
@@ -75,19 +76,19 @@ back f h inj (x ∷ xs) [] e = absurd cc
 back f h inj (x ∷ xs) (c ∷ cs) e = ap (λ y. y ∷ xs) (inj x (h c) (same_head e)) ∙ ap (λ l. h c ∷ l) (back f h inj xs cs (same_tail e))
 
 -- what gives the things gives what they are
-pub untagged : {X A C : Type 0} (f : A → Thing) (h : C → A) (r : Result X PartFault) (parts : X → List C) (rest : X → List Token) (o : Option (List A × List Token)) (t : Option (List Thing × List Token))
+pub untagged : {X A C : Type 0} (f : A → Thing) (h : C → A) (r : Result X MatchFault) (parts : X → List C) (rest : X → List Token) (o : Option (List A × List Token)) (t : Option (List Thing × List Token))
     → ((a b : A) → f a ≡ f b → a ≡ b) → t ≡ as_things f o → Gives (λ x. (map (λ c. f (h c)) (parts x), rest x)) r t → Gives (λ x. (map h (parts x), rest x)) r o
 unfolding as_things
 untagged f h (Ok x) parts rest None t inj e k = absurd cc
 untagged f h (Ok x) parts rest (Some q) t inj e k =
     let pair = same_Some (map f q.0, q.1) (map (λ c. f (h c)) (parts x), rest x) (sym e ∙ k) in
     ap (λ l. Some (l, q.1)) (back f h inj q.0 (parts x) (ap (λ (p : List Thing × List Token). p.0) pair)) ∙ ap (λ l. Some (map h (parts x), l)) (ap (λ (p : List Thing × List Token). p.1) pair)
-untagged f h (Err NotAPart) parts rest None t inj e k = refl
-untagged f h (Err NotAPart) parts rest (Some q) t inj e k = absurd cc
+untagged f h (Err NoMatch) parts rest None t inj e k = refl
+untagged f h (Err NoMatch) parts rest (Some q) t inj e k = absurd cc
 untagged f h (Err NoMemory) parts rest o t inj e k = tt
 
-pub untagged_same : {X A : Type 0} (f : A → Thing) (r : Result X PartFault) (parts : X → List A) (rest : X → List Token) (o : Option (List A × List Token)) (t : Option (List Thing × List Token))
+pub untagged_same : {X A : Type 0} (f : A → Thing) (r : Result X MatchFault) (parts : X → List A) (rest : X → List Token) (o : Option (List A × List Token)) (t : Option (List Thing × List Token))
     → ((a b : A) → f a ≡ f b → a ≡ b) → t ≡ as_things f o → Gives (λ x. (map f (parts x), rest x)) r t → Gives (λ x. (parts x, rest x)) r o
 untagged_same f (Ok x) parts rest o t inj e k = untagged f (λ a. a) (Ok x) parts rest o t inj e k ∙ ap (λ l. Some (l, rest x)) (map-id (parts x))
-untagged_same f (Err NotAPart) parts rest o t inj e k = untagged f (λ a. a) (Err NotAPart) parts rest o t inj e k
+untagged_same f (Err NoMatch) parts rest o t inj e k = untagged f (λ a. a) (Err NoMatch) parts rest o t inj e k
 untagged_same f (Err NoMemory) parts rest o t inj e k = tt

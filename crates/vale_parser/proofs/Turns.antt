@@ -1,27 +1,15 @@
 -- One turn of a list.
 use Rattle.std.proofs.Common.{◌≡◌, ◌<◌, ◌+◌, ◌-◌, ℕ, suc, arith, Bool, true, false, cond, List, [], ◌∷◌, ◌++◌, drop, Option, Some, None, refl, ◌∙◌, ap}
-use Rattle.std.specs.Prelude.{Result, IsErrAnd}
-use Rattle.std.proofs.lemmas.Result.{err_from_is_err_and}
 use Rattle.vale_syntax.specs.declared.token.Token.{Token}
 use Rattle.vale_syntax.specs.declared.mark.Mark.TheVariants as mark
 use Rattle.vale_syntax.specs.declared.lookahead.Lookahead.{Lookahead}
 use Rattle.vale_syntax.specs.Peek.{peek}
-use Rattle.vale_parser.specs.declared.fault.PartFault.{PartFault}
-use Rattle.vale_parser.specs.declared.fault.PartFault.TheVariants.{NotAPart, NoMemory}
-use Rattle.vale_parser.specs.Parts.{bind, Parser, is_mark, commas, many}
-use Rattle.vale_parser.specs.Reads.{Fails, Gives}
+use Rattle.vale_syntax.specs.inner.Marks.{is_mark}
+use Rattle.vale_parser.specs.Parts.{bind, Parser, commas, many}
 
 -- a turn that is left
 pub turns : (n i : ℕ) → i < n → n - i ≡ suc (n - (i + 1))
 turns n i h = omega (arith, h)
-
--- a fault that is passed on
-pub passed_on : {X Y Z : Type 0} (view : X → Y) (r : Result X PartFault) (e : PartFault) (part : Option Z) (o : Option Y) → IsErrAnd r (λ f. f ≡ e) → Fails e part → (part ≡ None → o ≡ None) → Gives view r o
-passed_on view r e part o h fails go = let (f, p, q) = err_from_is_err_and r h in rw (p, q) (by_fault e fails)
-  where
-    by_fault : (e : PartFault) → Fails e part → Fails e o
-    by_fault NotAPart h = go h
-    by_fault NoMemory h = tt
 
 commas_turn : {A : Type 0} (item : Parser A) (n m : ℕ) (xs : List A) (ts : List Token) (b : Bool) → n ≡ suc m → b ≡ is_mark mark.Comma (peek ts)
     → commas item n xs ts ≡ cond b (bind (item (drop 1 ts)) (λ p. commas item m (xs ++ p.0 ∷ []) p.1)) (Some (xs, ts))

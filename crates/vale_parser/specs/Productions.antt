@@ -1,5 +1,6 @@
 -- The thing of each production that tokens begin with, found by looking ahead; `declarations_as_spelled` says that it is the one that they spell.
 use Rattle.std.specs.Prelude.{ℕ, zero, suc, max, Bool, true, false, ◌&&◌, List, [], length, drop, Option, Some, None, if◌then◌else◌}
+use Rattle.std.specs.List.{list_all}
 use Rattle.x64_syntax.specs.declared.keywords.Keyword.TheVariants as word
 use Rattle.x64_syntax.specs.declared.type_words.Sort.{Sort}
 use Rattle.x64_syntax.specs.declared.type_words.Sort.TheVariants as sort
@@ -21,10 +22,11 @@ use Rattle.vale_syntax.specs.Peek.{peek, spot_of}
 use Rattle.vale_syntax.specs.Trees.{Ex}
 use Rattle.vale_syntax.specs.Expressions.{name_of}
 use Rattle.vale_syntax.specs.Programs.{Ar, Memory, Value, St, Sts, no_sts, Arm, no_arm, arm, Call, Assert, Ghost, Assign, If, While, InlineIf, LSt, LSts, no_lsts, LArm, no_larm, larm, LCall, LAssert, LIf, Cl, Reads, Modifies, Requires, Ensures, Stack, Abi, LCl, LRequires, LEnsures, LDecreases, De, Procedure, Lemma, Function, Export}
-use Rattle.vale_syntax.specs.Statements.{sort_at, sts_last, lsts_last, statement_limit}
+use Rattle.vale_syntax.specs.Statements.{is_plain, tokens_before, sort_at, sts_last, lsts_last, statement_limit}
 use Rattle.vale_syntax.specs.Declarations.{kind_at, abi_at}
-use Rattle.expr_parser.specs.Reads.{expression}
-use Rattle.vale_parser.specs.Parts.{bind as and_then, Parser, is_mark, expect, before, separated, closed, many}
+use Rattle.expr_parser.specs.Reads.{expression as expression_front}
+use Rattle.vale_syntax.specs.inner.Marks.{is_mark}
+use Rattle.vale_parser.specs.Parts.{bind as and_then, Parser, expect, before, separated, closed, many}
 
 -- words
 abbrev pub is_name : Lookahead → Bool
@@ -65,6 +67,13 @@ asked false o = None
 
 abbrev pub name : Parser Name
 name ts = asked (is_name (peek ts)) (Some (name_of ts, drop 1 ts))
+
+-- an expression, where it has no stamped names
+abbrev pub plain_only : List Token → Ex × List Token → Option (Ex × List Token)
+plain_only ts p = asked (list_all is_plain (tokens_before p.1 ts)) (Some p)
+
+abbrev pub expression : Parser Ex
+expression ts = and_then (expression_front ts) (plain_only ts)
 
 -- `x: sort`, behind the name
 abbrev pub sort_behind : List Token → Option (SortName × List Token)

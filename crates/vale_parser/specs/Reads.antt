@@ -1,5 +1,5 @@
--- What a function of the parser answered, held against what looking ahead gives.
-use Rattle.std.specs.Prelude.{◌≡◌, map, Option, Some, None, Result, Ok, Err}
+-- What a function of the parser returned, as what looking ahead gives.
+use Rattle.std.specs.Prelude.{map}
 use Rattle.std.specs.Option.{option_map}
 use Rattle.vale_syntax.specs.Programs.{stmt_tree, sts, arm_of, lstmt_tree, lsts, larm_of}
 use Rattle.vale_parser.specs.declared.lemma_statements.LemmaStated.{LemmaStated}
@@ -12,17 +12,6 @@ use Rattle.vale_parser.specs.declared.statements.Armed.{Armed}
 use Rattle.vale_parser.specs.declared.statements.Branches.{Branches}
 use Rattle.vale_parser.specs.Productions.{stated, bodied, armed, branches, Stated as AStated, Bodied as ABodied, Armed as AArmed, Branches as ABranches, header, Header as AHeader, lstated, lbodied, larmed, lbranches, LStated, LBodied, LArmed, LBranches}
 use Rattle.vale_parser.specs.declared.declarations.Header.{Header}
-use Rattle.vale_parser.specs.declared.fault.PartFault.{PartFault}
-use Rattle.vale_parser.specs.declared.fault.PartFault.TheVariants.{NotAPart, NoMemory}
-
-abbrev pub Fails : {Y : Type 0} → PartFault → Option Y → Type 0
-Fails NotAPart o = o ≡ None
-Fails NoMemory o = Unit {0}
-
--- what was returned is what is given, unless memory ran out
-abbrev pub Gives : {X Y : Type 0} → (X → Y) → Result X PartFault → Option Y → Type 0
-Gives view (Ok x) o = o ≡ Some (view x)
-Gives view (Err e) o = Fails e o
 
 abbrev pub stated_view : Stated → AStated
 stated_view s = stated (stmt_tree s.tree) s.height s.rest.now

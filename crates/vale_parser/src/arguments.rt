@@ -4,27 +4,26 @@ ghost use Rattle.std.specs.Prelude.{◌≡◌, [], length, drop, map};
 ghost use Rattle.vale_syntax.specs.Peek.{peek};
 ghost use Rattle.vale_syntax.specs.Trees.{tree};
 ghost use Rattle.vale_syntax.specs.Programs.{arg_tree};
-ghost use Rattle.expr_parser.specs.Reads.{expression};
+ghost use Rattle.vale_parser.specs.Productions.{expression};
 ghost use Rattle.vale_parser.specs.Parts.{separated, closed, many};
 ghost use Rattle.vale_parser.specs.Productions.{memory_at, value_at, argument_by, argument, invariant_, is_invariant, test};
-ghost use Rattle.vale_parser.specs.Reads.{Gives};
+ghost use Rattle.vale_syntax.specs.inner.Matches.{Gives};
 ghost use Rattle.vale_parser.specs.Things.{Thing, AnArg, tagged};
 
 use crate::clauses::asked;
-use crate::fault::PartFault;
 use crate::front::{Read, expect, expression, is_at};
 use crate::part::{Part, closed, separated};
 use crate::words::{is_invariant, is_name};
 use expr_parser::{after, name_of};
 use sqlite_items::Items;
 use std::alloc::Global;
-use vale_syntax::{Arg, Expr, Mark, Name, Token, peek};
+use vale_syntax::{Arg, Expr, Mark, Name, Token, peek, MatchFault};
 
 /// Expressions, joined by commas, and the closing round bracket.
 pub(crate) fn expressions<'a>(
     alloc: Global,
     tokens: &'a [Token],
-) -> Result<Read<'a, Items<Expr>>, PartFault>
+) -> Result<Read<'a, Items<Expr>>, MatchFault>
     ensures { Gives (λ r. (map tree r.part, r.rest.now)) result (closed expression tokens.now) }
 {
     closed(alloc, tokens)
@@ -33,7 +32,7 @@ pub(crate) fn expressions<'a>(
 fn some_expressions<'a>(
     alloc: Global,
     tokens: &'a [Token],
-) -> Result<Read<'a, Items<Expr>>, PartFault>
+) -> Result<Read<'a, Items<Expr>>, MatchFault>
     ensures { Gives (λ r. (map tree r.part, r.rest.now)) result (separated expression tokens.now) }
 {
     separated(alloc, tokens)
@@ -45,7 +44,7 @@ fn memory_at<'a>(
     block: Name,
     index: Expr,
     tokens: &'a [Token],
-) -> Result<Read<'a, Arg>, PartFault>
+) -> Result<Read<'a, Arg>, MatchFault>
     ensures { Gives (λ r. (arg_tree r.part, r.rest.now)) result (memory_at block (tree index) tokens.now) }
 {
     let rest = expect(tokens, Mark::RoundOpen)?;
@@ -57,7 +56,7 @@ fn memory_at<'a>(
     })
 }
 
-fn value_at<'a>(alloc: Global, tokens: &'a [Token]) -> Result<Read<'a, Arg>, PartFault>
+fn value_at<'a>(alloc: Global, tokens: &'a [Token]) -> Result<Read<'a, Arg>, MatchFault>
     ensures { Gives (λ r. (arg_tree r.part, r.rest.now)) result (value_at tokens.now) }
 {
     let found = expression(alloc, tokens)?;
@@ -69,7 +68,7 @@ fn value_at<'a>(alloc: Global, tokens: &'a [Token]) -> Result<Read<'a, Arg>, Par
 
 // An argument that begins with a name and an index, which is read apart from the rest: an index may be as deep as an
 // expression.
-fn indexed<'a>(alloc: Global, tokens: &'a [Token]) -> Result<Read<'a, Arg>, PartFault>
+fn indexed<'a>(alloc: Global, tokens: &'a [Token]) -> Result<Read<'a, Arg>, MatchFault>
     ensures { Gives (λ r. (arg_tree r.part, r.rest.now)) result (argument_by (expression (drop 2 tokens.now)) tokens.now) }
 {
     match expression(alloc, after(tokens, 2)) {
@@ -81,13 +80,13 @@ fn indexed<'a>(alloc: Global, tokens: &'a [Token]) -> Result<Read<'a, Arg>, Part
                 value_at(alloc, tokens)
             }
         }
-        Err(PartFault::NotAPart) => value_at(alloc, tokens),
-        Err(PartFault::NoMemory) => Err(PartFault::NoMemory),
+        Err(MatchFault::NoMatch) => value_at(alloc, tokens),
+        Err(MatchFault::NoMemory) => Err(MatchFault::NoMemory),
     }
 }
 
 #[tactic(auto, unfolding(crate::specs::Productions::argument))]
-fn argument<'a>(alloc: Global, tokens: &'a [Token]) -> Result<Read<'a, Arg>, PartFault>
+fn argument<'a>(alloc: Global, tokens: &'a [Token]) -> Result<Read<'a, Arg>, MatchFault>
     ensures { Gives (λ r. (arg_tree r.part, r.rest.now)) result (argument tokens.now) }
 {
     if is_name(peek(tokens)) && is_at(after(tokens, 1), Mark::SquareOpen) {
@@ -102,7 +101,7 @@ impl Part for Arg {
 
     ghost found = { tagged AnArg argument };
 
-    fn read<'a>(alloc: Global, tokens: &'a [Token]) -> Result<Read<'a, Self>, PartFault> {
+    fn read<'a>(alloc: Global, tokens: &'a [Token]) -> Result<Read<'a, Self>, MatchFault> {
         argument(alloc, tokens)
     }
 }
@@ -111,14 +110,14 @@ impl Part for Arg {
 pub(crate) fn arguments<'a>(
     alloc: Global,
     tokens: &'a [Token],
-) -> Result<Read<'a, Items<Arg>>, PartFault>
+) -> Result<Read<'a, Items<Arg>>, MatchFault>
     ensures { Gives (λ r. (map arg_tree r.part, r.rest.now)) result (closed argument tokens.now) }
 {
     closed(alloc, tokens)
 }
 
 #[tactic(auto, unfolding(crate::specs::Productions::invariant_))]
-fn invariant<'a>(alloc: Global, tokens: &'a [Token]) -> Result<Read<'a, Expr>, PartFault>
+fn invariant<'a>(alloc: Global, tokens: &'a [Token]) -> Result<Read<'a, Expr>, MatchFault>
     ensures { Gives (λ r. (tree r.part, r.rest.now)) result (invariant_ tokens.now) }
 {
     asked(alloc, is_invariant(peek(tokens)), tokens)
@@ -128,7 +127,7 @@ fn invariant<'a>(alloc: Global, tokens: &'a [Token]) -> Result<Read<'a, Expr>, P
 pub(crate) fn invariants<'a>(
     alloc: Global,
     tokens: &'a [Token],
-) -> Result<Read<'a, Items<Expr>>, PartFault>
+) -> Result<Read<'a, Items<Expr>>, MatchFault>
     ensures { Gives (λ r. (map tree r.part, r.rest.now)) result (many is_invariant invariant_ (length tokens.now) [] tokens.now) }
 {
     let mut parts = Items::new(alloc);
@@ -145,7 +144,7 @@ pub(crate) fn invariants<'a>(
 }
 
 /// `(t)`
-pub(crate) fn test<'a>(alloc: Global, tokens: &'a [Token]) -> Result<Read<'a, Expr>, PartFault>
+pub(crate) fn test<'a>(alloc: Global, tokens: &'a [Token]) -> Result<Read<'a, Expr>, MatchFault>
     ensures { Gives (λ r. (tree r.part, r.rest.now)) result (test tokens.now) }
 {
     let rest = expect(tokens, Mark::RoundOpen)?;

@@ -5,10 +5,9 @@ ghost use Rattle.vale_syntax.specs.Trees.{tree};
 ghost use Rattle.vale_syntax.specs.Programs.{clause_tree, lclause_tree};
 ghost use Rattle.vale_parser.specs.Parts.{many};
 ghost use Rattle.vale_parser.specs.Productions.{asked, expression_end, abi_clause, reads_clause, modifies_clause, clause, begins_clause, lclause, begins_lclause};
-ghost use Rattle.vale_parser.specs.Reads.{Gives};
+ghost use Rattle.vale_syntax.specs.inner.Matches.{Gives};
 ghost use Rattle.vale_parser.specs.Things.{Thing, AClause, ALClause, tagged};
 
-use crate::fault::PartFault;
 use crate::front::{Read, expect, expression};
 use crate::parameters::{names, places};
 use crate::part::{Part, Repeated, many};
@@ -16,14 +15,14 @@ use crate::words::abi_at;
 use expr_parser::{after, spot_of};
 use sqlite_items::Items;
 use std::alloc::Global;
-use vale_syntax::{Clause, Expr, LemmaClause, Lookahead, Mark, Spot, Token, peek};
+use vale_syntax::{Clause, Expr, LemmaClause, Lookahead, Mark, Spot, Token, peek, MatchFault};
 use x64_syntax::Keyword;
 
 /// Behind the first token, an expression and a semicolon.
 pub(crate) fn expression_end<'a>(
     alloc: Global,
     tokens: &'a [Token],
-) -> Result<Read<'a, Expr>, PartFault>
+) -> Result<Read<'a, Expr>, MatchFault>
     ensures { Gives (λ r. (tree r.part, r.rest.now)) result (expression_end tokens.now) }
 {
     let found = expression(alloc, after(tokens, 1))?;
@@ -38,17 +37,17 @@ pub(crate) fn asked<'a>(
     alloc: Global,
     is_asked: bool,
     tokens: &'a [Token],
-) -> Result<Read<'a, Expr>, PartFault>
+) -> Result<Read<'a, Expr>, MatchFault>
     ensures { Gives (λ r. (tree r.part, r.rest.now)) result (asked is_asked (expression_end tokens.now)) }
 {
     if is_asked {
         expression_end(alloc, tokens)
     } else {
-        Err(PartFault::NotAPart)
+        Err(MatchFault::NoMatch)
     }
 }
 
-fn abi_clause(spot: Spot, tokens: &[Token]) -> Result<Read<'_, Clause>, PartFault>
+fn abi_clause(spot: Spot, tokens: &[Token]) -> Result<Read<'_, Clause>, MatchFault>
     ensures { Gives (λ r. (clause_tree r.part, r.rest.now)) result (abi_clause spot tokens.now) }
 {
     match abi_at(tokens) {
@@ -56,11 +55,11 @@ fn abi_clause(spot: Spot, tokens: &[Token]) -> Result<Read<'_, Clause>, PartFaul
             part: Clause::Abi(spot, abi),
             rest: expect(after(tokens, 1), Mark::Semicolon)?,
         }),
-        None => Err(PartFault::NotAPart),
+        None => Err(MatchFault::NoMatch),
     }
 }
 
-fn reads_clause<'a>(alloc: Global, tokens: &'a [Token]) -> Result<Read<'a, Clause>, PartFault>
+fn reads_clause<'a>(alloc: Global, tokens: &'a [Token]) -> Result<Read<'a, Clause>, MatchFault>
     ensures { Gives (λ r. (clause_tree r.part, r.rest.now)) result (reads_clause tokens.now) }
 {
     let found = places(alloc, after(tokens, 1))?;
@@ -70,7 +69,7 @@ fn reads_clause<'a>(alloc: Global, tokens: &'a [Token]) -> Result<Read<'a, Claus
     })
 }
 
-fn modifies_clause<'a>(alloc: Global, tokens: &'a [Token]) -> Result<Read<'a, Clause>, PartFault>
+fn modifies_clause<'a>(alloc: Global, tokens: &'a [Token]) -> Result<Read<'a, Clause>, MatchFault>
     ensures { Gives (λ r. (clause_tree r.part, r.rest.now)) result (modifies_clause tokens.now) }
 {
     let found = names(alloc, after(tokens, 1))?;
@@ -81,7 +80,7 @@ fn modifies_clause<'a>(alloc: Global, tokens: &'a [Token]) -> Result<Read<'a, Cl
 }
 
 #[tactic(auto, unfolding(crate::specs::Productions::clause))]
-fn clause<'a>(alloc: Global, tokens: &'a [Token]) -> Result<Read<'a, Clause>, PartFault>
+fn clause<'a>(alloc: Global, tokens: &'a [Token]) -> Result<Read<'a, Clause>, MatchFault>
     ensures { Gives (λ r. (clause_tree r.part, r.rest.now)) result (clause tokens.now) }
 {
     let spot = spot_of(tokens);
@@ -110,12 +109,12 @@ fn clause<'a>(alloc: Global, tokens: &'a [Token]) -> Result<Read<'a, Clause>, Pa
             })
         }
         Lookahead::Keyword(Keyword::Abi) => abi_clause(spot, after(tokens, 1)),
-        _ => Err(PartFault::NotAPart),
+        _ => Err(MatchFault::NoMatch),
     }
 }
 
 #[tactic(auto, unfolding(crate::specs::Productions::lclause))]
-fn lemma_clause<'a>(alloc: Global, tokens: &'a [Token]) -> Result<Read<'a, LemmaClause>, PartFault>
+fn lemma_clause<'a>(alloc: Global, tokens: &'a [Token]) -> Result<Read<'a, LemmaClause>, MatchFault>
     ensures { Gives (λ r. (lclause_tree r.part, r.rest.now)) result (lclause tokens.now) }
 {
     let spot = spot_of(tokens);
@@ -141,7 +140,7 @@ fn lemma_clause<'a>(alloc: Global, tokens: &'a [Token]) -> Result<Read<'a, Lemma
                 rest: found.rest,
             })
         }
-        _ => Err(PartFault::NotAPart),
+        _ => Err(MatchFault::NoMatch),
     }
 }
 
@@ -150,7 +149,7 @@ impl Part for Clause {
 
     ghost found = { tagged AClause clause };
 
-    fn read<'a>(alloc: Global, tokens: &'a [Token]) -> Result<Read<'a, Self>, PartFault> {
+    fn read<'a>(alloc: Global, tokens: &'a [Token]) -> Result<Read<'a, Self>, MatchFault> {
         clause(alloc, tokens)
     }
 }
@@ -178,7 +177,7 @@ impl Part for LemmaClause {
 
     ghost found = { tagged ALClause lclause };
 
-    fn read<'a>(alloc: Global, tokens: &'a [Token]) -> Result<Read<'a, Self>, PartFault> {
+    fn read<'a>(alloc: Global, tokens: &'a [Token]) -> Result<Read<'a, Self>, MatchFault> {
         lemma_clause(alloc, tokens)
     }
 }
@@ -198,7 +197,7 @@ impl Repeated for LemmaClause {
 pub(crate) fn clauses<'a>(
     alloc: Global,
     tokens: &'a [Token],
-) -> Result<Read<'a, Items<Clause>>, PartFault>
+) -> Result<Read<'a, Items<Clause>>, MatchFault>
     ensures { Gives (λ r. (map clause_tree r.part, r.rest.now)) result (many begins_clause clause (length tokens.now) [] tokens.now) }
 {
     many(alloc, tokens)
@@ -208,7 +207,7 @@ pub(crate) fn clauses<'a>(
 pub(crate) fn lemma_clauses<'a>(
     alloc: Global,
     tokens: &'a [Token],
-) -> Result<Read<'a, Items<LemmaClause>>, PartFault>
+) -> Result<Read<'a, Items<LemmaClause>>, MatchFault>
     ensures { Gives (λ r. (map lclause_tree r.part, r.rest.now)) result (many begins_lclause lclause (length tokens.now) [] tokens.now) }
 {
     many(alloc, tokens)

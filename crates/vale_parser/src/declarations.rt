@@ -5,11 +5,11 @@ ghost use Rattle.vale_syntax.specs.Peek.{peek};
 ghost use Rattle.vale_syntax.specs.Trees.{tree};
 ghost use Rattle.vale_syntax.specs.Programs.{decl_tree};
 ghost use Rattle.vale_parser.specs.Productions.{head, procedure_, lemma_, function_, plain_at, parts_at, result_at, export_, declaration};
-ghost use Rattle.vale_parser.specs.Reads.{Gives, header_view};
+ghost use Rattle.vale_syntax.specs.inner.Matches.{Gives};
+ghost use Rattle.vale_parser.specs.Reads.{header_view};
 
 use crate::arguments::expressions;
 use crate::clauses::{asked, clauses, expression_end, lemma_clauses};
-use crate::fault::PartFault;
 use crate::front::{Read, expect, name};
 use crate::parameters::{binds, parameters};
 use crate::words::{is_step, is_zero, sort_behind};
@@ -17,14 +17,14 @@ use crate::{lemma_statements, statements};
 use expr_parser::{after, spot_of};
 use sqlite_items::Items;
 use std::alloc::Global;
-use vale_syntax::{Bind, Decl, Expr, Lookahead, Mark, Name, SortName, Spot, Token, peek};
+use vale_syntax::{Bind, Decl, Expr, Lookahead, Mark, Name, SortName, Spot, Token, peek, MatchFault};
 use x64_syntax::Keyword;
 
 /// No statement is deeper.
 const STATEMENT_LIMIT: u8 = 100;
 
 // Behind a keyword, a name and an opening round bracket.
-fn head<'a>(alloc: Global, tokens: &'a [Token]) -> Result<Read<'a, Name>, PartFault>
+fn head<'a>(alloc: Global, tokens: &'a [Token]) -> Result<Read<'a, Name>, MatchFault>
     ensures { Gives (λ r. (r.part, r.rest.now)) result (head tokens.now) }
 {
     let found = name(alloc, after(tokens, 1))?;
@@ -34,7 +34,7 @@ fn head<'a>(alloc: Global, tokens: &'a [Token]) -> Result<Read<'a, Name>, PartFa
     })
 }
 
-fn procedure<'a>(alloc: Global, tokens: &'a [Token]) -> Result<Read<'a, Decl>, PartFault>
+fn procedure<'a>(alloc: Global, tokens: &'a [Token]) -> Result<Read<'a, Decl>, MatchFault>
     ensures { Gives (λ r. (decl_tree r.part, r.rest.now)) result (procedure_ tokens.now) }
 {
     let name = head(alloc, tokens)?;
@@ -53,7 +53,7 @@ fn procedure<'a>(alloc: Global, tokens: &'a [Token]) -> Result<Read<'a, Decl>, P
     })
 }
 
-fn lemma<'a>(alloc: Global, tokens: &'a [Token]) -> Result<Read<'a, Decl>, PartFault>
+fn lemma<'a>(alloc: Global, tokens: &'a [Token]) -> Result<Read<'a, Decl>, MatchFault>
     ensures { Gives (λ r. (decl_tree r.part, r.rest.now)) result (lemma_ tokens.now) }
 {
     let name = head(alloc, tokens)?;
@@ -86,7 +86,7 @@ fn plain_at<'a>(
     alloc: Global,
     header: Header,
     tokens: &'a [Token],
-) -> Result<Read<'a, Decl>, PartFault>
+) -> Result<Read<'a, Decl>, MatchFault>
     ensures { Gives (λ r. (decl_tree r.part, r.rest.now)) result (plain_at (header_view header) tokens.now) }
 {
     let value = expression_end(alloc, tokens)?;
@@ -108,7 +108,7 @@ fn parts_at<'a>(
     alloc: Global,
     header: Header,
     tokens: &'a [Token],
-) -> Result<Read<'a, Decl>, PartFault>
+) -> Result<Read<'a, Decl>, MatchFault>
     ensures { Gives (λ r. (decl_tree r.part, r.rest.now)) result (parts_at (header_view header) tokens.now) }
 {
     let zero = asked(alloc, is_zero(peek(tokens)), tokens)?;
@@ -131,17 +131,17 @@ fn result_at<'a>(
     alloc: Global,
     header: Header,
     tokens: &'a [Token],
-) -> Result<Read<'a, Decl>, PartFault>
+) -> Result<Read<'a, Decl>, MatchFault>
     ensures { Gives (λ r. (decl_tree r.part, r.rest.now)) result (result_at (header_view header) tokens.now) }
 {
     match peek(tokens) {
         Lookahead::Mark(Mark::Equals) => plain_at(alloc, header, tokens),
         Lookahead::Mark(Mark::BraceOpen) => parts_at(alloc, header, after(tokens, 1)),
-        _ => Err(PartFault::NotAPart),
+        _ => Err(MatchFault::NoMatch),
     }
 }
 
-fn function<'a>(alloc: Global, tokens: &'a [Token]) -> Result<Read<'a, Decl>, PartFault>
+fn function<'a>(alloc: Global, tokens: &'a [Token]) -> Result<Read<'a, Decl>, MatchFault>
     ensures { Gives (λ r. (decl_tree r.part, r.rest.now)) result (function_ tokens.now) }
 {
     let name = head(alloc, tokens)?;
@@ -156,7 +156,7 @@ fn function<'a>(alloc: Global, tokens: &'a [Token]) -> Result<Read<'a, Decl>, Pa
     result_at(alloc, header, sort.rest)
 }
 
-fn export<'a>(alloc: Global, tokens: &'a [Token]) -> Result<Read<'a, Decl>, PartFault>
+fn export<'a>(alloc: Global, tokens: &'a [Token]) -> Result<Read<'a, Decl>, MatchFault>
     ensures { Gives (λ r. (decl_tree r.part, r.rest.now)) result (export_ tokens.now) }
 {
     let exported = name(alloc, after(tokens, 1))?;
@@ -176,7 +176,7 @@ fn export<'a>(alloc: Global, tokens: &'a [Token]) -> Result<Read<'a, Decl>, Part
 pub(crate) fn declaration<'a>(
     alloc: Global,
     tokens: &'a [Token],
-) -> Result<Read<'a, Decl>, PartFault>
+) -> Result<Read<'a, Decl>, MatchFault>
     ensures { Gives (λ r. (decl_tree r.part, r.rest.now)) result (declaration tokens.now) }
 {
     match peek(tokens) {
@@ -184,6 +184,6 @@ pub(crate) fn declaration<'a>(
         Lookahead::Keyword(Keyword::Lemma) => lemma(alloc, tokens),
         Lookahead::Keyword(Keyword::Function) => function(alloc, tokens),
         Lookahead::Keyword(Keyword::Export) => export(alloc, tokens),
-        _ => Err(PartFault::NotAPart),
+        _ => Err(MatchFault::NoMatch),
     }
 }

@@ -1,17 +1,18 @@
 // What is read off the front of a list of tokens.
 
 ghost use Rattle.std.specs.Prelude.{◌≡◌};
+ghost use Rattle.std.specs.List.{list_all};
 ghost use Rattle.vale_syntax.specs.Peek.{peek};
 ghost use Rattle.vale_syntax.specs.Trees.{tree};
-ghost use Rattle.expr_parser.specs.Reads.{expression};
-ghost use Rattle.vale_parser.specs.Parts.{mark_eq, is_mark, expect};
-ghost use Rattle.vale_parser.specs.Productions.{is_name, name};
-ghost use Rattle.vale_parser.specs.Reads.{Gives};
+ghost use Rattle.vale_syntax.specs.Statements.{tokens_before, is_plain};
+ghost use Rattle.vale_syntax.specs.inner.Marks.{is_mark};
+ghost use Rattle.vale_parser.specs.Parts.{expect};
+ghost use Rattle.vale_parser.specs.Productions.{is_name, name, expression};
+ghost use Rattle.vale_syntax.specs.inner.Matches.{Gives};
 
-use crate::fault::PartFault;
-use expr_parser::{ExprFault, after, name_of, read_front};
+use expr_parser::{after, name_of, read_front};
 use std::alloc::Global;
-use vale_syntax::{Expr, Lookahead, Mark, Name, Token, peek};
+use vale_syntax::{Expr, Lookahead, Mark, MatchFault, Name, Token, TokenKind, is_mark, peek};
 
 /// A part of the grammar, and the tokens behind it.
 #[derive(Debug, Drop)]
@@ -20,51 +21,26 @@ pub(crate) struct Read<'a, T> {
     pub(crate) rest: &'a [Token],
 }
 
-// Whether the marks are the same, where the first is none of the operators between expressions.
-fn same_mark(a: Mark, b: Mark) -> bool
-    ensures { result ≡ mark_eq a b }
-{
-    match (a, b) {
-        (Mark::RoundOpen, Mark::RoundOpen) => true,
-        (Mark::RoundClose, Mark::RoundClose) => true,
-        (Mark::SquareOpen, Mark::SquareOpen) => true,
-        (Mark::SquareClose, Mark::SquareClose) => true,
-        (Mark::BraceOpen, Mark::BraceOpen) => true,
-        (Mark::BraceClose, Mark::BraceClose) => true,
-        (Mark::Comma, Mark::Comma) => true,
-        (Mark::Semicolon, Mark::Semicolon) => true,
-        (Mark::Colon, Mark::Colon) => true,
-        (Mark::Equals, Mark::Equals) => true,
-        (Mark::Assign, Mark::Assign) => true,
-        (Mark::Bang, Mark::Bang) => true,
-        (Mark::At, Mark::At) => true,
-        _ => false,
-    }
-}
-
 /// Whether a mark, none of the operators between expressions, stands at the front.
 pub(crate) fn is_at(tokens: &[Token], mark: Mark) -> bool
     ensures { result ≡ is_mark mark (peek tokens.now) }
 {
-    match peek(tokens) {
-        Lookahead::Mark(found) => same_mark(mark, found),
-        _ => false,
-    }
+    is_mark(mark, peek(tokens))
 }
 
 /// The tokens behind a mark that stands at the front.
-pub(crate) fn expect(tokens: &[Token], mark: Mark) -> Result<&[Token], PartFault>
+pub(crate) fn expect(tokens: &[Token], mark: Mark) -> Result<&[Token], MatchFault>
     ensures { Gives (λ rest. rest.now) result (expect mark tokens.now) }
 {
     if is_at(tokens, mark) {
         Ok(after(tokens, 1))
     } else {
-        Err(PartFault::NotAPart)
+        Err(MatchFault::NoMatch)
     }
 }
 
 /// A name.
-pub(crate) fn name<'a>(alloc: Global, tokens: &'a [Token]) -> Result<Read<'a, Name>, PartFault>
+pub(crate) fn name<'a>(alloc: Global, tokens: &'a [Token]) -> Result<Read<'a, Name>, MatchFault>
     ensures { Gives (λ r. (r.part, r.rest.now)) result (name tokens.now) }
 {
     match peek(tokens) {
@@ -72,20 +48,42 @@ pub(crate) fn name<'a>(alloc: Global, tokens: &'a [Token]) -> Result<Read<'a, Na
             part: name_of(alloc, tokens)?,
             rest: after(tokens, 1),
         }),
-        _ => Err(PartFault::NotAPart),
+        _ => Err(MatchFault::NoMatch),
     }
 }
 
-/// An expression.
+// The tokens before those that are left.
+fn tokens_before<'a>(rest: &[Token], tokens: &'a [Token]) -> &'a [Token]
+    ensures { result.now ≡ tokens_before rest.now tokens.now }
+{
+    let len = tokens.len().saturating_sub(rest.len());
+    tokens.split_at(len).0
+}
+
+fn is_plain(token: &Token) -> bool
+    ensures { result ≡ is_plain token.now }
+{
+    !matches!(token.kind, TokenKind::Stamped)
+}
+
+// Whether none of the tokens is a stamped name.
+fn are_plain(tokens: &[Token]) -> bool
+    ensures { result ≡ list_all is_plain tokens.now }
+{
+    tokens.iter().all(is_plain)
+}
+
+/// An expression without stamped names.
 pub(crate) fn expression<'a>(
     alloc: Global,
     tokens: &'a [Token],
-) -> Result<Read<'a, Expr>, PartFault>
+) -> Result<Read<'a, Expr>, MatchFault>
     ensures { Gives (λ r. (tree r.part, r.rest.now)) result (expression tokens.now) }
 {
-    match read_front(alloc, tokens) {
-        Ok((part, rest)) => Ok(Read { part, rest }),
-        Err(ExprFault::NotAnExpr) => Err(PartFault::NotAPart),
-        Err(ExprFault::NoMemory) => Err(PartFault::NoMemory),
+    let (part, rest) = read_front(alloc, tokens)?;
+    if are_plain(tokens_before(rest, tokens)) {
+        Ok(Read { part, rest })
+    } else {
+        Err(MatchFault::NoMatch)
     }
 }

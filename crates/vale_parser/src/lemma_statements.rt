@@ -4,17 +4,17 @@ ghost use Rattle.std.specs.Prelude.{◌≡◌, ◌≤◌, ◌<◌, suc, max, dro
 ghost use Rattle.vale_syntax.specs.Peek.{peek};
 ghost use Rattle.vale_syntax.specs.Programs.{lstmt_tree, lsts, no_lsts};
 ghost use Rattle.vale_parser.specs.Productions.{lcall, lstatement, lstatement_by, larms, lblock, lbody, lelse_by};
-ghost use Rattle.vale_parser.specs.Reads.{Gives, lstated_view, lbodied_view, larmed_view, lbranches_view};
+ghost use Rattle.vale_syntax.specs.inner.Matches.{Gives};
+ghost use Rattle.vale_parser.specs.Reads.{lstated_view, lbodied_view, larmed_view, lbranches_view};
 
 use crate::arguments::{expressions, test};
 use crate::clauses::expression_end;
-use crate::fault::PartFault;
 use crate::front::{expect, is_at};
 use crate::words::is_else;
 use expr_parser::{after, name_of, spot_of};
 use sqlite_items::Items;
 use std::alloc::Global;
-use vale_syntax::{LemmaStmt, Lookahead, Mark, Token, peek};
+use vale_syntax::{LemmaStmt, Lookahead, Mark, Token, peek, MatchFault};
 use x64_syntax::Keyword;
 
 /// A statement and its depth.
@@ -50,7 +50,7 @@ pub(crate) struct LemmaBranches<'a> {
     rest: &'a [Token],
 }
 
-fn call<'a>(alloc: Global, tokens: &'a [Token]) -> Result<LemmaStated<'a>, PartFault>
+fn call<'a>(alloc: Global, tokens: &'a [Token]) -> Result<LemmaStated<'a>, MatchFault>
     ensures found { Gives lstated_view result (lcall tokens.now) }
     ensures shallow { IfOk result (λ s. s.height ≤ 1) }
 {
@@ -67,12 +67,12 @@ fn call<'a>(alloc: Global, tokens: &'a [Token]) -> Result<LemmaStated<'a>, PartF
 // A statement with a depth of at most `left`.
 #[cycle(statement)]
 #[tactic(auto, unfolding(crate::specs::Productions::lstatement))]
-fn statement<'a>(alloc: Global, tokens: &'a [Token], left: u8) -> Result<LemmaStated<'a>, PartFault>
+fn statement<'a>(alloc: Global, tokens: &'a [Token], left: u8) -> Result<LemmaStated<'a>, MatchFault>
     ensures found { Gives lstated_view result (lstatement left tokens.now) }
     ensures shallow { IfOk result (λ s. s.height ≤ left) }
 {
     if left == 0 {
-        return Err(PartFault::NotAPart);
+        return Err(MatchFault::NoMatch);
     }
     statement_of(alloc, tokens, left - 1)
 }
@@ -82,7 +82,7 @@ fn statement_of<'a>(
     alloc: Global,
     tokens: &'a [Token],
     below: u8,
-) -> Result<LemmaStated<'a>, PartFault>
+) -> Result<LemmaStated<'a>, MatchFault>
     requires { below < 255 }
     ensures found { Gives lstated_view result (lstatement_by (lstatement below) (peek tokens.now) tokens.now) }
     ensures shallow { IfOk result (λ s. s.height ≤ suc below) }
@@ -107,12 +107,12 @@ fn statement_of<'a>(
                 rest: arms.rest,
             })
         }
-        _ => Err(PartFault::NotAPart),
+        _ => Err(MatchFault::NoMatch),
     }
 }
 
 #[cycle(statement)]
-fn arms<'a>(alloc: Global, tokens: &'a [Token], below: u8) -> Result<LemmaBranches<'a>, PartFault>
+fn arms<'a>(alloc: Global, tokens: &'a [Token], below: u8) -> Result<LemmaBranches<'a>, MatchFault>
     requires { below < 255 }
     ensures found { Gives lbranches_view result (larms (lstatement below) tokens.now) }
     ensures shallow { IfOk result (λ b. b.height ≤ suc below) }
@@ -132,7 +132,7 @@ fn second_arm<'a>(
     alloc: Global,
     tokens: &'a [Token],
     below: u8,
-) -> Result<LemmaArmed<'a>, PartFault>
+) -> Result<LemmaArmed<'a>, MatchFault>
     ensures found { Gives larmed_view result (lelse_by (lstatement below) tokens.now) }
     ensures shallow { IfOk result (λ a. a.height ≤ below) }
 {
@@ -158,7 +158,7 @@ pub(crate) fn block<'a>(
     alloc: Global,
     tokens: &'a [Token],
     below: u8,
-) -> Result<LemmaBodied<'a>, PartFault>
+) -> Result<LemmaBodied<'a>, MatchFault>
     ensures found { Gives lbodied_view result (lblock (lstatement below) tokens.now) }
     ensures shallow { IfOk result (λ b. b.height ≤ below) }
 {
@@ -168,7 +168,7 @@ pub(crate) fn block<'a>(
 
 // Statements as far as the closing brace.
 #[cycle(statement)]
-fn body<'a>(alloc: Global, tokens: &'a [Token], below: u8) -> Result<LemmaBodied<'a>, PartFault>
+fn body<'a>(alloc: Global, tokens: &'a [Token], below: u8) -> Result<LemmaBodied<'a>, MatchFault>
     ensures found { Gives lbodied_view result (lbody (lstatement below) (length tokens.now) no_lsts 0 tokens.now) }
     ensures shallow { IfOk result (λ b. b.height ≤ below) }
 {
@@ -188,5 +188,5 @@ fn body<'a>(alloc: Global, tokens: &'a [Token], below: u8) -> Result<LemmaBodied
         height = height.max(next.height);
         rest = next.rest;
     }
-    Err(PartFault::NotAPart)
+    Err(MatchFault::NoMatch)
 }

@@ -4,7 +4,6 @@
 mod arguments;
 mod clauses;
 mod declarations;
-mod fault;
 mod front;
 mod lemma_statements;
 mod parameters;

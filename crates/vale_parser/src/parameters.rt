@@ -3,23 +3,20 @@
 ghost use Rattle.std.specs.Prelude.{◌≡◌, map};
 ghost use Rattle.vale_parser.specs.Parts.{separated, closed};
 ghost use Rattle.vale_parser.specs.Productions.{name, bind, place, place_at, parameter, operand_at, out_at, inline_at, ghost_at, block_at, guarded};
-ghost use Rattle.vale_parser.specs.Reads.{Gives};
+ghost use Rattle.vale_syntax.specs.inner.Matches.{Gives};
 ghost use Rattle.vale_parser.specs.Things.{Thing, ABind, APlace, AParam, AName, tagged};
 
-use crate::fault::PartFault;
 use crate::front::{Read, name};
 use crate::part::{Part, closed, separated};
 use crate::words::{is_secret, kind_behind, sort_behind};
 use expr_parser::{after, spot_of};
 use sqlite_items::Items;
 use std::alloc::Global;
-use vale_syntax::{
-    Bind, Direction, Lookahead, Name, Param, ReadPlace, Spot, Token, peek,
-};
+use vale_syntax::{Bind, Direction, Lookahead, Name, Param, ReadPlace, Spot, Token, peek, MatchFault};
 use x64_syntax::{Keyword, Sort};
 
 #[tactic(auto, unfolding(crate::specs::Productions::bind))]
-fn bind<'a>(alloc: Global, tokens: &'a [Token]) -> Result<Read<'a, Bind>, PartFault>
+fn bind<'a>(alloc: Global, tokens: &'a [Token]) -> Result<Read<'a, Bind>, MatchFault>
     ensures { Gives (λ r. (r.part, r.rest.now)) result (bind tokens.now) }
 {
     let name = name(alloc, tokens)?;
@@ -38,7 +35,7 @@ fn place_at<'a>(
     spot: Spot,
     is_secret: bool,
     tokens: &'a [Token],
-) -> Result<Read<'a, ReadPlace>, PartFault>
+) -> Result<Read<'a, ReadPlace>, MatchFault>
     ensures { Gives (λ r. (r.part, r.rest.now)) result (place_at spot is_secret tokens.now) }
 {
     let name = name(alloc, tokens)?;
@@ -53,7 +50,7 @@ fn place_at<'a>(
 }
 
 #[tactic(auto, unfolding(crate::specs::Productions::place))]
-fn place<'a>(alloc: Global, tokens: &'a [Token]) -> Result<Read<'a, ReadPlace>, PartFault>
+fn place<'a>(alloc: Global, tokens: &'a [Token]) -> Result<Read<'a, ReadPlace>, MatchFault>
     ensures { Gives (λ r. (r.part, r.rest.now)) result (place tokens.now) }
 {
     let spot = spot_of(tokens);
@@ -70,7 +67,7 @@ fn operand_at<'a>(
     is_secret: bool,
     direction: Direction,
     tokens: &'a [Token],
-) -> Result<Read<'a, Param>, PartFault>
+) -> Result<Read<'a, Param>, MatchFault>
     ensures { Gives (λ r. (r.part, r.rest.now)) result (operand_at spot is_secret direction tokens.now) }
 {
     let name = name(alloc, tokens)?;
@@ -81,7 +78,7 @@ fn operand_at<'a>(
     })
 }
 
-fn out_at<'a>(alloc: Global, spot: Spot, tokens: &'a [Token]) -> Result<Read<'a, Param>, PartFault>
+fn out_at<'a>(alloc: Global, spot: Spot, tokens: &'a [Token]) -> Result<Read<'a, Param>, MatchFault>
     ensures { Gives (λ r. (r.part, r.rest.now)) result (out_at spot tokens.now) }
 {
     let name = name(alloc, tokens)?;
@@ -96,7 +93,7 @@ fn inline_at<'a>(
     alloc: Global,
     spot: Spot,
     tokens: &'a [Token],
-) -> Result<Read<'a, Param>, PartFault>
+) -> Result<Read<'a, Param>, MatchFault>
     ensures { Gives (λ r. (r.part, r.rest.now)) result (inline_at spot tokens.now) }
 {
     let name = name(alloc, tokens)?;
@@ -106,7 +103,7 @@ fn inline_at<'a>(
             part: Param::Inline(spot, name.part),
             rest: sort.rest,
         }),
-        _ => Err(PartFault::NotAPart),
+        _ => Err(MatchFault::NoMatch),
     }
 }
 
@@ -114,7 +111,7 @@ fn ghost_at<'a>(
     alloc: Global,
     spot: Spot,
     tokens: &'a [Token],
-) -> Result<Read<'a, Param>, PartFault>
+) -> Result<Read<'a, Param>, MatchFault>
     ensures { Gives (λ r. (r.part, r.rest.now)) result (ghost_at spot tokens.now) }
 {
     let name = name(alloc, tokens)?;
@@ -130,7 +127,7 @@ fn block_at<'a>(
     spot: Spot,
     is_secret: bool,
     tokens: &'a [Token],
-) -> Result<Read<'a, Param>, PartFault>
+) -> Result<Read<'a, Param>, MatchFault>
     ensures { Gives (λ r. (r.part, r.rest.now)) result (block_at spot is_secret tokens.now) }
 {
     let name = name(alloc, tokens)?;
@@ -146,7 +143,7 @@ fn guarded<'a>(
     spot: Spot,
     is_secret: bool,
     tokens: &'a [Token],
-) -> Result<Read<'a, Param>, PartFault>
+) -> Result<Read<'a, Param>, MatchFault>
     ensures { Gives (λ r. (r.part, r.rest.now)) result (guarded spot is_secret tokens.now) }
 {
     let rest = after(tokens, 1);
@@ -160,12 +157,12 @@ fn guarded<'a>(
             rest,
         ),
         Lookahead::Keyword(Keyword::Block) => block_at(alloc, spot, is_secret, rest),
-        _ => Err(PartFault::NotAPart),
+        _ => Err(MatchFault::NoMatch),
     }
 }
 
 #[tactic(auto, unfolding(crate::specs::Productions::parameter))]
-fn parameter<'a>(alloc: Global, tokens: &'a [Token]) -> Result<Read<'a, Param>, PartFault>
+fn parameter<'a>(alloc: Global, tokens: &'a [Token]) -> Result<Read<'a, Param>, MatchFault>
     ensures { Gives (λ r. (r.part, r.rest.now)) result (parameter tokens.now) }
 {
     let spot = spot_of(tokens);
@@ -184,7 +181,7 @@ impl Part for Bind {
 
     ghost found = { tagged ABind bind };
 
-    fn read<'a>(alloc: Global, tokens: &'a [Token]) -> Result<Read<'a, Self>, PartFault> {
+    fn read<'a>(alloc: Global, tokens: &'a [Token]) -> Result<Read<'a, Self>, MatchFault> {
         bind(alloc, tokens)
     }
 }
@@ -194,7 +191,7 @@ impl Part for ReadPlace {
 
     ghost found = { tagged APlace place };
 
-    fn read<'a>(alloc: Global, tokens: &'a [Token]) -> Result<Read<'a, Self>, PartFault> {
+    fn read<'a>(alloc: Global, tokens: &'a [Token]) -> Result<Read<'a, Self>, MatchFault> {
         place(alloc, tokens)
     }
 }
@@ -204,7 +201,7 @@ impl Part for Param {
 
     ghost found = { tagged AParam parameter };
 
-    fn read<'a>(alloc: Global, tokens: &'a [Token]) -> Result<Read<'a, Self>, PartFault> {
+    fn read<'a>(alloc: Global, tokens: &'a [Token]) -> Result<Read<'a, Self>, MatchFault> {
         parameter(alloc, tokens)
     }
 }
@@ -213,7 +210,7 @@ impl Part for Param {
 pub(crate) fn binds<'a>(
     alloc: Global,
     tokens: &'a [Token],
-) -> Result<Read<'a, Items<Bind>>, PartFault>
+) -> Result<Read<'a, Items<Bind>>, MatchFault>
     ensures { Gives (λ r. (r.part, r.rest.now)) result (closed bind tokens.now) }
 {
     closed(alloc, tokens)
@@ -223,7 +220,7 @@ pub(crate) fn binds<'a>(
 pub(crate) fn parameters<'a>(
     alloc: Global,
     tokens: &'a [Token],
-) -> Result<Read<'a, Items<Param>>, PartFault>
+) -> Result<Read<'a, Items<Param>>, MatchFault>
     ensures { Gives (λ r. (r.part, r.rest.now)) result (closed parameter tokens.now) }
 {
     closed(alloc, tokens)
@@ -233,7 +230,7 @@ pub(crate) fn parameters<'a>(
 pub(crate) fn places<'a>(
     alloc: Global,
     tokens: &'a [Token],
-) -> Result<Read<'a, Items<ReadPlace>>, PartFault>
+) -> Result<Read<'a, Items<ReadPlace>>, MatchFault>
     ensures { Gives (λ r. (r.part, r.rest.now)) result (separated place tokens.now) }
 {
     separated(alloc, tokens)
@@ -243,7 +240,7 @@ pub(crate) fn places<'a>(
 pub(crate) fn names<'a>(
     alloc: Global,
     tokens: &'a [Token],
-) -> Result<Read<'a, Items<Name>>, PartFault>
+) -> Result<Read<'a, Items<Name>>, MatchFault>
     ensures { Gives (λ r. (r.part, r.rest.now)) result (separated name tokens.now) }
 {
     separated(alloc, tokens)

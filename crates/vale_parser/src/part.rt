@@ -5,18 +5,17 @@ ghost use Rattle.vale_syntax.specs.declared.token.Token.{Token as AToken};
 ghost use Rattle.vale_syntax.specs.declared.lookahead.Lookahead.{Lookahead as ALookahead};
 ghost use Rattle.vale_syntax.specs.Peek.{peek};
 ghost use Rattle.vale_syntax.specs.Trees.{tree};
-ghost use Rattle.expr_parser.specs.Reads.{expression};
+ghost use Rattle.vale_parser.specs.Productions.{expression};
 ghost use Rattle.vale_parser.specs.Parts.{commas, separated, closed, many};
 ghost use Rattle.vale_parser.specs.Productions.{name};
-ghost use Rattle.vale_parser.specs.Reads.{Gives};
+ghost use Rattle.vale_syntax.specs.inner.Matches.{Gives};
 ghost use Rattle.vale_parser.specs.Things.{Thing, AnExpr, AName, tagged};
 
-use crate::fault::PartFault;
 use crate::front::{Read, expect, expression, is_at, name};
 use expr_parser::after;
 use sqlite_items::Items;
 use std::alloc::{AllocError, Global};
-use vale_syntax::{Expr, Lookahead, Mark, Name, Token, peek};
+use vale_syntax::{Expr, Lookahead, Mark, Name, Token, peek, MatchFault};
 
 /// A part of the grammar of which there are lists.
 pub(crate) trait Part: Sized + Drop {
@@ -27,7 +26,7 @@ pub(crate) trait Part: Sized + Drop {
     ghost found: { List AToken → Option (Thing × List AToken) };
 
     /// The part at the front.
-    fn read<'a>(alloc: Global, tokens: &'a [Token]) -> Result<Read<'a, Self>, PartFault>
+    fn read<'a>(alloc: Global, tokens: &'a [Token]) -> Result<Read<'a, Self>, MatchFault>
         ensures { Gives (λ r. (thing r.part, r.rest.now)) result (found tokens.now) };
 }
 
@@ -36,7 +35,7 @@ impl Part for Expr {
 
     ghost found = { tagged AnExpr expression };
 
-    fn read<'a>(alloc: Global, tokens: &'a [Token]) -> Result<Read<'a, Self>, PartFault> {
+    fn read<'a>(alloc: Global, tokens: &'a [Token]) -> Result<Read<'a, Self>, MatchFault> {
         expression(alloc, tokens)
     }
 }
@@ -46,7 +45,7 @@ impl Part for Name {
 
     ghost found = { tagged AName name };
 
-    fn read<'a>(alloc: Global, tokens: &'a [Token]) -> Result<Read<'a, Self>, PartFault> {
+    fn read<'a>(alloc: Global, tokens: &'a [Token]) -> Result<Read<'a, Self>, MatchFault> {
         name(alloc, tokens)
     }
 }
@@ -67,7 +66,7 @@ fn commas<'a, T: Part>(
     first: Items<T>,
     tokens: &'a [Token],
     turns: usize,
-) -> Result<Read<'a, Items<T>>, PartFault>
+) -> Result<Read<'a, Items<T>>, MatchFault>
     ensures { Gives (λ r. (map T.thing r.part, r.rest.now)) result (commas T.found turns (map T.thing first) tokens.now) }
 {
     let mut parts = first;
@@ -87,7 +86,7 @@ fn commas<'a, T: Part>(
 pub(crate) fn separated<'a, T: Part>(
     alloc: Global,
     tokens: &'a [Token],
-) -> Result<Read<'a, Items<T>>, PartFault>
+) -> Result<Read<'a, Items<T>>, MatchFault>
     ensures { Gives (λ r. (map T.thing r.part, r.rest.now)) result (separated T.found tokens.now) }
 {
     let first = T::read(alloc, tokens)?;
@@ -100,7 +99,7 @@ pub(crate) fn separated<'a, T: Part>(
 pub(crate) fn closed<'a, T: Part>(
     alloc: Global,
     tokens: &'a [Token],
-) -> Result<Read<'a, Items<T>>, PartFault>
+) -> Result<Read<'a, Items<T>>, MatchFault>
     ensures { Gives (λ r. (map T.thing r.part, r.rest.now)) result (closed T.found tokens.now) }
 {
     if is_at(tokens, Mark::RoundClose) {
@@ -120,7 +119,7 @@ pub(crate) fn closed<'a, T: Part>(
 pub(crate) fn many<'a, T: Repeated>(
     alloc: Global,
     tokens: &'a [Token],
-) -> Result<Read<'a, Items<T>>, PartFault>
+) -> Result<Read<'a, Items<T>>, MatchFault>
     ensures { Gives (λ r. (map T.thing r.part, r.rest.now)) result (many T.begins T.found (length tokens.now) [] tokens.now) }
 {
     let mut parts = Items::new(alloc);

@@ -9,10 +9,9 @@ ghost use Rattle.vale_parser.specs.declared.sources.ParseFault.TheVariants.{NotA
 ghost use Rattle.vale_parser.specs.Sources.{StopsAt};
 
 use crate::declarations::declaration;
-use crate::fault::PartFault;
 use expr_parser::spot_of;
 use std::alloc::{AllocError, AllocFailed, Global};
-use vale_syntax::{Decl, Spot, Token};
+use vale_syntax::{Decl, Spot, Token, MatchFault};
 
 /// Why no declarations were read.
 #[derive(Clone, Copy, Debug, PartialEq, Eq, Drop)]
@@ -66,12 +65,12 @@ pub fn read_decls(alloc: Global, tokens: &[Token]) -> Result<Vec<Decl>, ParseFau
                 decls.push(next.part)?;
                 rest = next.rest;
             }
-            Err(PartFault::NotAPart) => {
+            Err(MatchFault::NoMatch) => {
                 return Err(ParseFault::NotADecl {
                     first: spot_of(rest),
                 });
             }
-            Err(PartFault::NoMemory) => return Err(ParseFault::NoMemory),
+            Err(MatchFault::NoMemory) => return Err(ParseFault::NoMemory),
         }
     }
     Ok(decls)

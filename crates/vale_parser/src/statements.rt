@@ -6,17 +6,17 @@ ghost use Rattle.vale_syntax.specs.Peek.{peek};
 ghost use Rattle.vale_syntax.specs.Trees.{tree};
 ghost use Rattle.vale_syntax.specs.Programs.{stmt_tree, sts, no_sts};
 ghost use Rattle.vale_parser.specs.Productions.{asked, is_if, test, call_at, assign_at, ghost_statement, named_by, simple, statement, statement_by, loop_at, arms, block, body, else_by};
-ghost use Rattle.vale_parser.specs.Reads.{Gives, stated_view, bodied_view, armed_view, branches_view};
+ghost use Rattle.vale_syntax.specs.inner.Matches.{Gives};
+ghost use Rattle.vale_parser.specs.Reads.{stated_view, bodied_view, armed_view, branches_view};
 
 use crate::arguments::{arguments, invariants, test};
 use crate::clauses::{asked, expression_end};
-use crate::fault::PartFault;
 use crate::front::{Read, expect, expression, is_at, name};
 use crate::words::{is_decreases, is_else, is_if, sort_behind};
 use expr_parser::{after, name_of, spot_of};
 use sqlite_items::Items;
 use std::alloc::Global;
-use vale_syntax::{Expr, Lookahead, Mark, Spot, Stmt, Token, peek};
+use vale_syntax::{Expr, Lookahead, Mark, Spot, Stmt, Token, peek, MatchFault};
 use x64_syntax::Keyword;
 
 /// A statement and its depth.
@@ -52,7 +52,7 @@ pub(crate) struct Branches<'a> {
     rest: &'a [Token],
 }
 
-fn call_at<'a>(alloc: Global, tokens: &'a [Token]) -> Result<Read<'a, Stmt>, PartFault>
+fn call_at<'a>(alloc: Global, tokens: &'a [Token]) -> Result<Read<'a, Stmt>, MatchFault>
     ensures { Gives (λ r. (stmt_tree r.part, r.rest.now)) result (call_at tokens.now) }
 {
     let found = arguments(alloc, after(tokens, 2))?;
@@ -63,7 +63,7 @@ fn call_at<'a>(alloc: Global, tokens: &'a [Token]) -> Result<Read<'a, Stmt>, Par
     })
 }
 
-fn assign_at<'a>(alloc: Global, tokens: &'a [Token]) -> Result<Read<'a, Stmt>, PartFault>
+fn assign_at<'a>(alloc: Global, tokens: &'a [Token]) -> Result<Read<'a, Stmt>, MatchFault>
     ensures { Gives (λ r. (stmt_tree r.part, r.rest.now)) result (assign_at tokens.now) }
 {
     let found = expression(alloc, after(tokens, 2))?;
@@ -74,7 +74,7 @@ fn assign_at<'a>(alloc: Global, tokens: &'a [Token]) -> Result<Read<'a, Stmt>, P
     })
 }
 
-fn ghost_at<'a>(alloc: Global, tokens: &'a [Token]) -> Result<Read<'a, Stmt>, PartFault>
+fn ghost_at<'a>(alloc: Global, tokens: &'a [Token]) -> Result<Read<'a, Stmt>, MatchFault>
     ensures { Gives (λ r. (stmt_tree r.part, r.rest.now)) result (ghost_statement tokens.now) }
 {
     let name = name(alloc, after(tokens, 1))?;
@@ -88,19 +88,19 @@ fn ghost_at<'a>(alloc: Global, tokens: &'a [Token]) -> Result<Read<'a, Stmt>, Pa
     })
 }
 
-fn named<'a>(alloc: Global, tokens: &'a [Token]) -> Result<Read<'a, Stmt>, PartFault>
+fn named<'a>(alloc: Global, tokens: &'a [Token]) -> Result<Read<'a, Stmt>, MatchFault>
     ensures { Gives (λ r. (stmt_tree r.part, r.rest.now)) result (named_by (peek (drop 1 tokens.now)) tokens.now) }
 {
     match peek(after(tokens, 1)) {
         Lookahead::Mark(Mark::RoundOpen) => call_at(alloc, tokens),
         Lookahead::Mark(Mark::Assign) => assign_at(alloc, tokens),
-        _ => Err(PartFault::NotAPart),
+        _ => Err(MatchFault::NoMatch),
     }
 }
 
 // A statement without statements inside.
 #[tactic(auto, unfolding(crate::specs::Productions::simple))]
-fn simple<'a>(alloc: Global, tokens: &'a [Token]) -> Result<Read<'a, Stmt>, PartFault>
+fn simple<'a>(alloc: Global, tokens: &'a [Token]) -> Result<Read<'a, Stmt>, MatchFault>
     ensures { Gives (λ r. (stmt_tree r.part, r.rest.now)) result (simple tokens.now) }
 {
     match peek(tokens) {
@@ -113,35 +113,35 @@ fn simple<'a>(alloc: Global, tokens: &'a [Token]) -> Result<Read<'a, Stmt>, Part
             })
         }
         Lookahead::Keyword(Keyword::Ghost) => ghost_at(alloc, tokens),
-        _ => Err(PartFault::NotAPart),
+        _ => Err(MatchFault::NoMatch),
     }
 }
 
-fn inline_test<'a>(alloc: Global, tokens: &'a [Token]) -> Result<Read<'a, Expr>, PartFault>
+fn inline_test<'a>(alloc: Global, tokens: &'a [Token]) -> Result<Read<'a, Expr>, MatchFault>
     ensures { Gives (λ r. (tree r.part, r.rest.now)) result (asked (is_if (peek (drop 1 tokens.now))) (test (drop 2 tokens.now))) }
 {
     if is_if(peek(after(tokens, 1))) {
         test(alloc, after(tokens, 2))
     } else {
-        Err(PartFault::NotAPart)
+        Err(MatchFault::NoMatch)
     }
 }
 
 // A statement with a depth of at most `left`.
 #[cycle(statement)]
 #[tactic(auto, unfolding(crate::specs::Productions::statement))]
-fn statement<'a>(alloc: Global, tokens: &'a [Token], left: u8) -> Result<Stated<'a>, PartFault>
+fn statement<'a>(alloc: Global, tokens: &'a [Token], left: u8) -> Result<Stated<'a>, MatchFault>
     ensures found { Gives stated_view result (statement left tokens.now) }
     ensures shallow { IfOk result (λ s. s.height ≤ left) }
 {
     if left == 0 {
-        return Err(PartFault::NotAPart);
+        return Err(MatchFault::NoMatch);
     }
     statement_of(alloc, tokens, left - 1)
 }
 
 #[cycle(statement)]
-fn statement_of<'a>(alloc: Global, tokens: &'a [Token], below: u8) -> Result<Stated<'a>, PartFault>
+fn statement_of<'a>(alloc: Global, tokens: &'a [Token], below: u8) -> Result<Stated<'a>, MatchFault>
     requires { below < 255 }
     ensures found { Gives stated_view result (statement_by (statement below) (peek tokens.now) tokens.now) }
     ensures shallow { IfOk result (λ s. s.height ≤ suc below) }
@@ -188,7 +188,7 @@ fn loop_at<'a>(
     spot: Spot,
     test: Read<'a, Expr>,
     below: u8,
-) -> Result<Stated<'a>, PartFault>
+) -> Result<Stated<'a>, MatchFault>
     requires { below < 255 }
     ensures found { Gives stated_view result (loop_at (statement below) spot (tree test.entry.part, test.entry.rest.now)) }
     ensures shallow { IfOk result (λ s. s.height ≤ suc below) }
@@ -204,7 +204,7 @@ fn loop_at<'a>(
 }
 
 #[cycle(statement)]
-fn arms<'a>(alloc: Global, tokens: &'a [Token], below: u8) -> Result<Branches<'a>, PartFault>
+fn arms<'a>(alloc: Global, tokens: &'a [Token], below: u8) -> Result<Branches<'a>, MatchFault>
     requires { below < 255 }
     ensures found { Gives branches_view result (arms (statement below) tokens.now) }
     ensures shallow { IfOk result (λ b. b.height ≤ suc below) }
@@ -220,7 +220,7 @@ fn arms<'a>(alloc: Global, tokens: &'a [Token], below: u8) -> Result<Branches<'a
 }
 
 #[cycle(statement)]
-fn second_arm<'a>(alloc: Global, tokens: &'a [Token], below: u8) -> Result<Armed<'a>, PartFault>
+fn second_arm<'a>(alloc: Global, tokens: &'a [Token], below: u8) -> Result<Armed<'a>, MatchFault>
     ensures found { Gives armed_view result (else_by (statement below) tokens.now) }
     ensures shallow { IfOk result (λ a. a.height ≤ below) }
 {
@@ -246,7 +246,7 @@ pub(crate) fn block<'a>(
     alloc: Global,
     tokens: &'a [Token],
     below: u8,
-) -> Result<Bodied<'a>, PartFault>
+) -> Result<Bodied<'a>, MatchFault>
     ensures found { Gives bodied_view result (block (statement below) tokens.now) }
     ensures shallow { IfOk result (λ b. b.height ≤ below) }
 {
@@ -256,7 +256,7 @@ pub(crate) fn block<'a>(
 
 // Statements as far as the closing brace.
 #[cycle(statement)]
-fn body<'a>(alloc: Global, tokens: &'a [Token], below: u8) -> Result<Bodied<'a>, PartFault>
+fn body<'a>(alloc: Global, tokens: &'a [Token], below: u8) -> Result<Bodied<'a>, MatchFault>
     ensures found { Gives bodied_view result (body (statement below) (length tokens.now) no_sts 0 tokens.now) }
     ensures shallow { IfOk result (λ b. b.height ≤ below) }
 {
@@ -276,5 +276,5 @@ fn body<'a>(alloc: Global, tokens: &'a [Token], below: u8) -> Result<Bodied<'a>,
         height = height.max(next.height);
         rest = next.rest;
     }
-    Err(PartFault::NotAPart)
+    Err(MatchFault::NoMatch)
 }

@@ -5,12 +5,11 @@ ghost use Rattle.vale_syntax.specs.Peek.{peek, text_of};
 ghost use Rattle.vale_syntax.specs.Statements.{sort_at, sort_word};
 ghost use Rattle.vale_syntax.specs.Declarations.{kind_at, kind_word, abi_at, abi_word};
 ghost use Rattle.vale_parser.specs.Productions.{is_name, is_if, is_else, is_invariant, is_decreases, is_secret, is_zero, is_step, sort_behind, kind_behind};
-ghost use Rattle.vale_parser.specs.Reads.{Gives};
+ghost use Rattle.vale_syntax.specs.inner.Matches.{Gives};
 
-use crate::fault::PartFault;
 use crate::front::{Read, expect};
 use expr_parser::{after, spot_of};
-use vale_syntax::{AbiName, KindName, Lookahead, Mark, SortName, Spot, Token, peek};
+use vale_syntax::{AbiName, KindName, Lookahead, Mark, SortName, Spot, Token, peek, MatchFault};
 use x64_syntax::{Keyword, TypeWord, type_word_named};
 
 fn sort_word(word: Option<TypeWord>, spot: Spot) -> Option<SortName>
@@ -84,7 +83,7 @@ pub(crate) fn abi_at(tokens: &[Token]) -> Option<AbiName>
 }
 
 /// `: sort`
-pub(crate) fn sort_behind(tokens: &[Token]) -> Result<Read<'_, SortName>, PartFault>
+pub(crate) fn sort_behind(tokens: &[Token]) -> Result<Read<'_, SortName>, MatchFault>
     ensures { Gives (λ r. (r.part, r.rest.now)) result (sort_behind tokens.now) }
 {
     let rest = expect(tokens, Mark::Colon)?;
@@ -93,12 +92,12 @@ pub(crate) fn sort_behind(tokens: &[Token]) -> Result<Read<'_, SortName>, PartFa
             part,
             rest: after(rest, 1),
         }),
-        None => Err(PartFault::NotAPart),
+        None => Err(MatchFault::NoMatch),
     }
 }
 
 /// `: kind`
-pub(crate) fn kind_behind(tokens: &[Token]) -> Result<Read<'_, KindName>, PartFault>
+pub(crate) fn kind_behind(tokens: &[Token]) -> Result<Read<'_, KindName>, MatchFault>
     ensures { Gives (λ r. (r.part, r.rest.now)) result (kind_behind tokens.now) }
 {
     let rest = expect(tokens, Mark::Colon)?;
@@ -107,7 +106,7 @@ pub(crate) fn kind_behind(tokens: &[Token]) -> Result<Read<'_, KindName>, PartFa
             part,
             rest: after(rest, 1),
         }),
-        None => Err(PartFault::NotAPart),
+        None => Err(MatchFault::NoMatch),
     }
 }
 

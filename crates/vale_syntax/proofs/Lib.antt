@@ -1,6 +1,8 @@
 pub mod Complete
+pub mod Faults
 pub mod Grows
 pub mod Lexing
+pub mod MarkTests
 pub mod Marks
 pub mod Pieces
 pub mod Printed

@@ -1,6 +1,5 @@
 -- Which tokens spell which declaration. The tokens that are left follow.
-use Rattle.std.specs.Prelude.{◌≡◌, ℕ, ◌≤◌, Bool, true, false, List, [], ◌∷◌, drop, codes, Option, Some, None, if◌then◌else◌}
-use Rattle.std.specs.Str.{bytes_eq}
+use Rattle.std.specs.Prelude.{◌≡◌, ℕ, ◌≤◌, Bool, true, false, List, [], ◌∷◌, drop, Option, Some, None}
 use Rattle.x64_syntax.specs.declared.keywords.Keyword.TheVariants as word
 use Rattle.x64_syntax.specs.declared.type_words.TypeWord.{TypeWord}
 use Rattle.x64_syntax.specs.declared.type_words.TypeWord.TheVariants as type_word

@@ -1,5 +1,5 @@
 -- Which tokens spell which expression. Each relation hands on the tokens that are left behind the thing that it speaks of, and says the thing's depth exactly.
-use Rattle.std.specs.Prelude.{◌≡◌, ℕ, suc, ◌^◌, ◌≤◌, nat_lt, max, ℤ, pos, neg_ℤ, List, [], drop, Option, Some, None, if◌then◌else◌}
+use Rattle.std.specs.Prelude.{◌≡◌, ℕ, suc, ◌≤◌, nat_lt, max, ℤ, pos, neg_ℤ, List, [], drop, Option, Some, None, if◌then◌else◌}
 use Rattle.x64_syntax.specs.declared.keywords.Keyword.TheVariants as word
 use Rattle.vale_syntax.specs.declared.spot.Spot.{Spot}
 use Rattle.vale_syntax.specs.declared.token.Token.{Token}
@@ -12,6 +12,7 @@ use Rattle.vale_syntax.specs.declared.lookahead.Lookahead.TheVariants as see
 use Rattle.vale_syntax.specs.declared.expr.Name.{Name as AName}
 use Rattle.vale_syntax.specs.Operators.{rank_of, any, right_of, again_of}
 use Rattle.vale_syntax.specs.Peek.{peek, text_of, spot_of}
+use Rattle.vale_syntax.specs.Tokens.{whole_limit}
 use Rattle.vale_syntax.specs.Trees.{Ex, Exs, none, more, with_last, Int, Word, Wide, True, False, Prev, Name, Call, Index, Unary, Binary}
 
 -- the first token as a name
@@ -20,7 +21,7 @@ name_of ts = record { text = text_of ts; spot = spot_of ts }
 
 -- a whole number that a token may be
 abbrev pub whole : ℕ → Option ℤ
-whole n = if nat_lt n (2 ^ 127) then Some (pos n) else None
+whole n = if nat_lt n whole_limit then Some (pos n) else None
 
 abbrev pub whole_at : Spot → Option ℤ → Option Ex
 whole_at s None = None

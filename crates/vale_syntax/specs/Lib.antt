@@ -1,5 +1,6 @@
 pub mod Declarations
 pub mod Expressions
+pub mod inner
 pub mod Lists
 pub mod Operators
 pub mod Parse

@@ -1,5 +1,5 @@
 -- The text that an expression is printed as, and which trees have one.
-use Rattle.std.specs.Prelude.{◌≡◌, ℕ, ◌^◌, ◌<◌, ◌⊎◌, negsuc, nat_abs, Bool, true, false, List, [], ◌∷◌, ◌++◌, length, codes, decimal, None}
+use Rattle.std.specs.Prelude.{◌≡◌, ℕ, ◌<◌, ◌⊎◌, negsuc, nat_abs, Bool, true, false, List, [], ◌∷◌, ◌++◌, length, codes, decimal, None}
 use Rattle.std.specs.Fmt.{signed_decimal}
 use Rattle.std.specs.List.{list_all}
 use Rattle.x64_syntax.specs.Words.{is_name_text, keyword_of}
@@ -10,7 +10,7 @@ use Rattle.vale_syntax.specs.declared.mark.BinaryOp.TheVariants as op
 use Rattle.vale_syntax.specs.declared.mark.UnaryOp.{UnaryOp}
 use Rattle.vale_syntax.specs.declared.mark.UnaryOp.TheVariants as un
 use Rattle.vale_syntax.specs.Operators.{any}
-use Rattle.vale_syntax.specs.Tokens.{is_stamp_byte, All, lexed}
+use Rattle.vale_syntax.specs.Tokens.{is_stamp_byte, whole_limit, word_limit, wide_limit, All, lexed}
 use Rattle.vale_syntax.specs.Expressions.{Spells}
 use Rattle.vale_syntax.specs.Trees.{Ex, Exs, none, more, Int, Word, Wide, True, False, Prev, Name, Call, Index, Unary, Binary}
 
@@ -85,9 +85,9 @@ pub record IsFree (text : List ℕ) : Type 0 where
 unfoldable mutual
   -- The trees that some text spells: numbers are within the limits of their tokens, and names are names.
   pub IsWritable : Ex → Type 0
-  IsWritable (Int s z) = nat_abs z < 2 ^ 127
-  IsWritable (Word s n) = n < 2 ^ 64
-  IsWritable (Wide s n) = n < 2 ^ 128
+  IsWritable (Int s z) = nat_abs z < whole_limit
+  IsWritable (Word s n) = n < word_limit
+  IsWritable (Wide s n) = n < wide_limit
   IsWritable (True s) = Unit {0}
   IsWritable (False s) = Unit {0}
   IsWritable (Prev s) = Unit {0}

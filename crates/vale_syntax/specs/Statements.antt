@@ -1,12 +1,14 @@
 -- Which tokens spell which statement. The tokens that are left follow, and depths are exact.
-use Rattle.std.specs.Prelude.{◌≡◌, ℕ, suc, ◌≤◌, max, List, [], drop, codes, Option, Some, None, if◌then◌else◌}
-use Rattle.std.specs.Str.{bytes_eq}
+use Rattle.std.specs.Prelude.{◌≡◌, ℕ, suc, ◌-◌, ◌≤◌, max, Bool, true, false, List, [], length, take, drop, Option, Some, None}
+use Rattle.std.specs.List.{list_all}
 use Rattle.x64_syntax.specs.declared.keywords.Keyword.TheVariants as word
 use Rattle.x64_syntax.specs.declared.type_words.TypeWord.{TypeWord}
 use Rattle.x64_syntax.specs.declared.type_words.TypeWord.TheVariants as type_word
 use Rattle.x64_syntax.specs.Words.{type_word_of}
 use Rattle.vale_syntax.specs.declared.spot.Spot.{Spot}
 use Rattle.vale_syntax.specs.declared.token.Token.{Token}
+use Rattle.vale_syntax.specs.declared.token.TokenKind.{TokenKind}
+use Rattle.vale_syntax.specs.declared.token.TokenKind.TheVariants as kind
 use Rattle.vale_syntax.specs.declared.mark.Mark.TheVariants as mark
 use Rattle.vale_syntax.specs.declared.lookahead.Lookahead.{Lookahead}
 use Rattle.vale_syntax.specs.declared.lookahead.Lookahead.TheVariants as see
@@ -18,11 +20,24 @@ use Rattle.vale_syntax.specs.Expressions.{name_of, depth_limit, Spells}
 use Rattle.vale_syntax.specs.Programs.{Ar, Memory, Value, St, Sts, no_sts, more_sts, Arm, no_arm, arm, Call, Assert, Ghost, Assign, If, While, InlineIf, LSt, LSts, no_lsts, more_lsts, LArm, no_larm, larm, LCall, LAssert, LIf}
 use Rattle.vale_syntax.specs.Lists.{Closed, Separated, Many}
 
--- an expression that is no deeper than it may be
+-- the tokens before those that are left
+abbrev pub tokens_before : List Token → List Token → List Token
+tokens_before rest ts = take (length ts - length rest) ts
+
+abbrev pub is_plain_kind : TokenKind → Bool
+is_plain_kind kind.Stamped = false
+is_plain_kind _ = true
+
+-- a token that isn't a stamped name
+abbrev pub is_plain : Token → Bool
+is_plain t = is_plain_kind t.kind
+
+-- an expression of a source: it is no deeper than it may be, and none of its tokens is a stamped name
 pub record Expression (ts : List Token) (x : Ex) (rest : List Token) : Type 0 where
   pub depth : ℕ
   pub shallow : depth ≤ depth_limit
   pub spelled : Spells any depth ts x rest
+  pub plain : list_all is_plain (tokens_before rest ts) ≡ true
 
 -- the sort that a word is
 abbrev pub sort_word : Option TypeWord → Spot → Option SortName

@@ -1,5 +1,5 @@
 -- The tokens of a text, or the first place without one.
-use Rattle.std.specs.Prelude.{map, ℕ, zero, suc, ◌+◌, ◌-◌, ◌*◌, ◌^◌, Bool, not, ◌&&◌, ◌||◌, ◌==◌, nat_lt, nat_le, List, [], ◌∷◌, length, take, drop, Option, Some, None, option_map, codes, if◌then◌else◌}
+use Rattle.std.specs.Prelude.{ℕ, zero, suc, ◌+◌, ◌-◌, ◌*◌, ◌^◌, Bool, not, ◌&&◌, ◌||◌, ◌==◌, nat_lt, nat_le, List, [], ◌∷◌, length, take, drop, Option, Some, None, option_map, codes, if◌then◌else◌}
 use Rattle.std.specs.List.{find, prefix_len}
 use Rattle.std.specs.Str.{bytes_eq}
 use Rattle.x64_syntax.specs.Words.{is_digit_byte, is_name_byte}
@@ -11,7 +11,8 @@ use Rattle.vale_syntax.specs.declared.token.Front.{Front}
 use Rattle.vale_syntax.specs.declared.token.Front.TheVariants.{Skipped, Taken, Stopped}
 use Rattle.vale_syntax.specs.declared.token.Token.{Token}
 use Rattle.vale_syntax.specs.declared.mark.Mark.{Mark as AMark}
-use Rattle.vale_syntax.specs.declared.mark.TheConstants.{MARKS}
+use Rattle.vale_syntax.specs.declared.mark.Mark.TheVariants as mark
+use Rattle.vale_syntax.specs.declared.mark.BinaryOp.TheVariants as op
 
 -- the text begins with this one
 abbrev pub begins : List ℕ → List ℕ → Bool
@@ -59,10 +60,22 @@ abbrev pub number_after : ℕ → ℕ → List ℕ → ℕ
 number_after radix n [] = n
 number_after radix n (d ∷ ds) = number_after radix (n * radix + digit d) ds
 
-abbrev pub wide : ℕ → Option ℕ
-wide n = if nat_lt n (2 ^ 128) then Some n else None
+-- a whole number is below this
+abbrev pub whole_limit : ℕ
+whole_limit = 2 ^ 127
 
--- the number that digits write, where it is below 2^128
+-- a word of 64 bits is below this
+abbrev pub word_limit : ℕ
+word_limit = 2 ^ 64
+
+-- a word of 128 bits is below this
+abbrev pub wide_limit : ℕ
+wide_limit = 2 ^ 128
+
+abbrev pub wide : ℕ → Option ℕ
+wide n = if nat_lt n wide_limit then Some n else None
+
+-- the number that digits write, where some kind of number may be so large
 abbrev pub value : ℕ → List ℕ → Option ℕ
 value radix digits = wide (number_after radix 0 digits)
 
@@ -73,11 +86,11 @@ below limit kind len (Some n) = if nat_lt n limit then Taken (kind n) len else S
 
 -- a number of some length, by what follows
 abbrev pub suffixed : Option ℕ → ℕ → List ℕ → Front
-suffixed n len [] = below (2 ^ 127) Int len n
+suffixed n len [] = below whole_limit Int len n
 suffixed n len (b ∷ bs) =
-    if b == 119 then below (2 ^ 64) Word (len + 1) n
-    else if b == 118 then below (2 ^ 128) Wide (len + 1) n
-    else below (2 ^ 127) Int len n
+    if b == 119 then below word_limit Word (len + 1) n
+    else if b == 118 then below wide_limit Wide (len + 1) n
+    else below whole_limit Int len n
 
 -- the hexadecimal digits behind `0x`
 abbrev pub hex_len : List ℕ → ℕ
@@ -90,9 +103,35 @@ number_of (suc m) bytes = suffixed (value 16 (take (suc m) (drop 2 bytes))) (suc
 abbrev pub number : List ℕ → Front
 number bytes = number_of (hex_len bytes) bytes
 
--- the marks, with how each is written
+-- the marks, with how each is written; a mark stands before those that it begins with
 abbrev pub marks : List (List ℕ × AMark)
-marks = map (λ m. (m.0.now, m.1)) MARKS
+marks =
+    (codes "==>", mark.Binary op.Implies)
+    ∷ (codes ":=", mark.Assign)
+    ∷ (codes "==", mark.Binary op.Eq)
+    ∷ (codes "!=", mark.Binary op.Ne)
+    ∷ (codes "<=", mark.Binary op.Le)
+    ∷ (codes ">=", mark.Binary op.Ge)
+    ∷ (codes "&&", mark.Binary op.And)
+    ∷ (codes "||", mark.Binary op.Or)
+    ∷ (codes "(", mark.RoundOpen)
+    ∷ (codes ")", mark.RoundClose)
+    ∷ (codes "[", mark.SquareOpen)
+    ∷ (codes "]", mark.SquareClose)
+    ∷ (codes "{", mark.BraceOpen)
+    ∷ (codes "}", mark.BraceClose)
+    ∷ (codes ",", mark.Comma)
+    ∷ (codes ";", mark.Semicolon)
+    ∷ (codes ":", mark.Colon)
+    ∷ (codes "=", mark.Equals)
+    ∷ (codes "<", mark.Binary op.Lt)
+    ∷ (codes ">", mark.Binary op.Gt)
+    ∷ (codes "+", mark.Binary op.Add)
+    ∷ (codes "-", mark.Binary op.Sub)
+    ∷ (codes "*", mark.Binary op.Mul)
+    ∷ (codes "!", mark.Bang)
+    ∷ (codes "@", mark.At)
+    ∷ []
 
 -- the first of some marks that the text begins with
 abbrev pub mark_at : List (List ℕ × AMark) → List ℕ → Option (List ℕ × AMark)

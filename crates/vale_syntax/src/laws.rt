@@ -1,6 +1,6 @@
 // Laws over the definitions of tokens and expressions.
 
-ghost use Rattle.std.specs.Prelude.{◌≡◌, ◌≤◌, true, List, [], ℕ, length, Some};
+ghost use Rattle.std.specs.Prelude.{◌≡◌, ◌≤◌, true, List, [], ℕ, length, map, Some};
 ghost use Rattle.std.specs.List.{AllByRecursion};
 ghost use Rattle.vale_syntax.specs.Tokens.{begins, marks, mark_at, mark_len};
 ghost use Rattle.vale_syntax.specs.declared.token.Token.{Token};
@@ -9,6 +9,13 @@ ghost use Rattle.vale_syntax.specs.Trees.{Ex};
 ghost use Rattle.vale_syntax.specs.Expressions.{Spells, IsExpr};
 ghost use Rattle.vale_syntax.specs.Parse.{read};
 ghost use Rattle.vale_syntax.specs.Print.{text, IsWritable, IsTextOf};
+
+use crate::mark::MARKS;
+
+/// The table of marks is that of the definitions.
+pub fn table_of_marks()
+    ensures { map (λ m. (m.0.now, m.1)) MARKS ≡ marks }
+{}
 
 /// No mark is empty, and the mark that is taken is the longest: no mark that begins a text is longer than the first of the table that does.
 pub fn longest_mark()

@@ -4,6 +4,7 @@
 
 mod declaration;
 mod expr;
+mod fault;
 mod laws;
 mod lookahead;
 mod mark;
@@ -16,10 +17,11 @@ pub use declaration::{
     AbiName, Bind, Clause, Decl, Direction, KindName, LemmaClause, Param, ReadPlace,
 };
 pub use expr::{Expr, Name};
-pub use laws::{longest_mark, printed_as_spelled, read_as_spelled, spelled_once};
-pub use lookahead::{Lookahead, peek};
+pub use fault::MatchFault;
+pub use laws::{longest_mark, printed_as_spelled, read_as_spelled, spelled_once, table_of_marks};
+pub use lookahead::{Lookahead, is_mark, peek};
 pub use mark::{BinaryOp, MARKS, Mark, UnaryOp};
 pub use print::print_expr;
 pub use spot::Spot;
 pub use statement::{Arg, LemmaStmt, SortName, Stmt};
-pub use token::{Front, NotAToken, Token, TokenKind};
+pub use token::{Front, NotAToken, Token, TokenKind, WHOLE_LIMIT, WORD_LIMIT};

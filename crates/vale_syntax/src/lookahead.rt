@@ -2,6 +2,7 @@
 
 ghost use Rattle.std.specs.Prelude.{◌≡◌};
 ghost use Rattle.vale_syntax.specs.Peek.{peek, seen_as};
+ghost use Rattle.vale_syntax.specs.inner.Marks.{mark_eq, is_mark};
 
 use crate::mark::Mark;
 use crate::token::{Token, TokenKind};
@@ -52,5 +53,37 @@ fn seen_as(token: &Token) -> Lookahead
         TokenKind::Word(value) => Lookahead::Word(value),
         TokenKind::Wide(value) => Lookahead::Wide(value),
         TokenKind::Mark(mark) => Lookahead::Mark(mark),
+    }
+}
+
+/// Whether a token is the mark, none of the operators between expressions.
+pub fn is_mark(mark: Mark, token: Lookahead) -> bool
+    ensures { result ≡ is_mark mark token }
+{
+    match token {
+        Lookahead::Mark(found) => same_mark(mark, found),
+        _ => false,
+    }
+}
+
+// Whether the marks are the same, where the first is none of the operators between expressions.
+fn same_mark(a: Mark, b: Mark) -> bool
+    ensures { result ≡ mark_eq a b }
+{
+    match (a, b) {
+        (Mark::RoundOpen, Mark::RoundOpen) => true,
+        (Mark::RoundClose, Mark::RoundClose) => true,
+        (Mark::SquareOpen, Mark::SquareOpen) => true,
+        (Mark::SquareClose, Mark::SquareClose) => true,
+        (Mark::BraceOpen, Mark::BraceOpen) => true,
+        (Mark::BraceClose, Mark::BraceClose) => true,
+        (Mark::Comma, Mark::Comma) => true,
+        (Mark::Semicolon, Mark::Semicolon) => true,
+        (Mark::Colon, Mark::Colon) => true,
+        (Mark::Equals, Mark::Equals) => true,
+        (Mark::Assign, Mark::Assign) => true,
+        (Mark::Bang, Mark::Bang) => true,
+        (Mark::At, Mark::At) => true,
+        _ => false,
     }
 }

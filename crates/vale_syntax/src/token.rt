@@ -11,7 +11,7 @@ pub enum TokenKind {
     Name,
     /// A name, a dot, and lower-case letters or digits, as `rax.0`.
     Stamped,
-    /// A whole number below 2^127.
+    /// A whole number.
     Int(u128),
     /// A word of 64 bits, as `1w`.
     Word(u64),
@@ -20,6 +20,12 @@ pub enum TokenKind {
     /// One of the marks, as `:=`.
     Mark(Mark),
 }
+
+/// A whole number is below this.
+pub const WHOLE_LIMIT: u128 = 1 << 127;
+
+/// A word of 64 bits is below this.
+pub const WORD_LIMIT: u128 = 1 << 64;
 
 /// A token: what it is, its bytes, and where it begins.
 #[derive(Debug, Drop, PartialEq, Eq)]

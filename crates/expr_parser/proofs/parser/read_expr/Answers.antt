@@ -1,13 +1,13 @@
 use Rattle.std.proofs.Common.{◌≡◌, Option, Some, None}
 use Rattle.std.specs.Prelude.{Result, Ok, Err, IsErrOf}
-use Rattle.expr_parser.specs.declared.fault.ExprFault.{ExprFault}
-use Rattle.expr_parser.specs.declared.fault.ExprFault.TheVariants.{NotAnExpr, NoMemory}
-use Rattle.expr_parser.specs.Reads.{Gives}
+use Rattle.vale_syntax.specs.declared.fault.MatchFault.{MatchFault}
+use Rattle.vale_syntax.specs.declared.fault.MatchFault.TheVariants.{NoMatch, NoMemory}
+use Rattle.vale_syntax.specs.inner.Matches.{Gives}
 use Rattle.expr_parser.proofs.parser.read_expr.Goals as goal
 
-refused : {X Y : Type 0} (view : X → Y) (r : Result X ExprFault) (o : Option Y) → Gives view r o → IsErrOf r NotAnExpr → o ≡ None
+refused : {X Y : Type 0} (view : X → Y) (r : Result X MatchFault) (o : Option Y) → Gives view r o → IsErrOf r NoMatch → o ≡ None
 refused view (Ok x) o g h = absurd cc
-refused view (Err NotAnExpr) o g h = g
+refused view (Err NoMatch) o g h = g
 refused view (Err NoMemory) o g h = absurd cc
 
 pub returns-clause-not_an_expr : goal.returns-clause-not_an_expr

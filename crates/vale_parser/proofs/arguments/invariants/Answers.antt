@@ -2,7 +2,8 @@ use Rattle.std.proofs.Common.{[], ◌∷◌, length, map, sym, ◌∙◌, arith}
 use Rattle.std.proofs.lemmas.List.{map-append}
 use Rattle.vale_syntax.specs.Trees.{tree}
 use Rattle.vale_parser.specs.Productions.{is_invariant, invariant_}
-use Rattle.vale_parser.proofs.Turns.{turns, passed_on, many_stop, many_fail, many_go_on, many_done}
+use Rattle.vale_syntax.proofs.Faults.{passed_on}
+use Rattle.vale_parser.proofs.Turns.{turns, many_stop, many_fail, many_go_on, many_done}
 use Rattle.vale_parser.proofs.arguments.invariants.Goals as goal
 
 pub returns-then-not-is_invariant : goal.returns-then-not-is_invariant

@@ -1,5 +1,5 @@
 use Rattle.vale_syntax.specs.Trees.{tree}
-use Rattle.expr_parser.specs.Reads.{expression}
+use Rattle.vale_parser.specs.Productions.{expression}
 use Rattle.vale_parser.specs.Parts.{separated}
 use Rattle.vale_parser.specs.Things.{AnExpr}
 use Rattle.vale_parser.proofs.Things.{separated_tagged, untagged}

@@ -2,7 +2,8 @@ use Rattle.std.proofs.Common.{length, map, refl, sym, ◌∙◌, arith}
 use Rattle.vale_syntax.specs.Programs.{lstmt_tree, lsts}
 use Rattle.vale_parser.specs.Productions.{lstatement}
 use Rattle.vale_parser.specs.Reads.{lstated_view, lbodied_view}
-use Rattle.vale_parser.proofs.Turns.{turns, passed_on}
+use Rattle.vale_syntax.proofs.Faults.{passed_on}
+use Rattle.vale_parser.proofs.Turns.{turns}
 use Rattle.vale_parser.proofs.Bodies.{lbody_stop, lbody_fail, lbody_go_on, lbody_done, lsts_last_is, lstatement_is}
 use Rattle.vale_parser.proofs.lemma_statements.+statement.Goals as goal
 

@@ -1,6 +1,7 @@
 use Rattle.std.proofs.Common.{[], ◌∷◌, map, sym, ◌∙◌, arith}
 use Rattle.std.proofs.lemmas.List.{map-append}
-use Rattle.vale_parser.proofs.Turns.{turns, passed_on, commas_stop, commas_fail, commas_go_on, commas_done}
+use Rattle.vale_syntax.proofs.Faults.{passed_on}
+use Rattle.vale_parser.proofs.Turns.{turns, commas_stop, commas_fail, commas_go_on, commas_done}
 use Rattle.vale_parser.proofs.part.commas.Goals as goal
 
 pub returns-then-not-is_at : goal.returns-then-not-is_at

@@ -17,9 +17,9 @@ loop-rest-smaller c = declaration_shorter _ _ _ (declaration_sound _ _ _ c.in-Ok
 pub loop-rest-preserved : goal.loop-rest-preserved
 loop-rest-preserved c = rw (c.in_ok-push-in-Ok.ensures.items, map-append decl_tree c.loop-rest.decls.items (c.in-Ok.next.part ∷ [])) (front_last c.loop-rest.invariant (declaration_sound _ _ _ c.in-Ok.ensures))
 
-pub returns-in-Err-NotAPart-clause-not_a_decl : goal.returns-in-Err-NotAPart-clause-not_a_decl
-returns-in-Err-NotAPart-clause-not_a_decl c = λ first e.
-    let gone = rw c.in-Err-NotAPart.field-0-is at c.in-Err-NotAPart.ensures in
+pub returns-in-Err-NoMatch-clause-not_a_decl : goal.returns-in-Err-NoMatch-clause-not_a_decl
+returns-in-Err-NoMatch-clause-not_a_decl c = λ first e.
+    let gone = rw c.in-Err-NoMatch.field-0-is at c.in-Err-NoMatch.ensures in
     record {
       decls = map decl_tree c.loop-rest.decls.items;
       rest = c.loop-rest.rest.now;

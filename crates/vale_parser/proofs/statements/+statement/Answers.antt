@@ -2,7 +2,8 @@ use Rattle.std.proofs.Common.{length, map, refl, sym, ◌∙◌, arith}
 use Rattle.vale_syntax.specs.Programs.{stmt_tree, sts}
 use Rattle.vale_parser.specs.Productions.{statement}
 use Rattle.vale_parser.specs.Reads.{stated_view, bodied_view}
-use Rattle.vale_parser.proofs.Turns.{turns, passed_on}
+use Rattle.vale_syntax.proofs.Faults.{passed_on}
+use Rattle.vale_parser.proofs.Turns.{turns}
 use Rattle.vale_parser.proofs.Bodies.{body_stop, body_fail, body_go_on, body_done, sts_last_is, statement_is}
 use Rattle.vale_parser.proofs.statements.+statement.Goals as goal
 
