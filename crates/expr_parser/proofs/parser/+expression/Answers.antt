@@ -61,17 +61,17 @@ indexed-returns-in_err-at-clause-found t c =
     sym c.loop-turn.invariant.found
     ∙ index_fails _ _ _ _ _ _ c.peek.result (turns _ _ c.loop-turn-test.true) c.peek.ensures open_ (rw c.after.ensures at none))
 
-pub indexed-returns-then-not-is_mark-in-loop-turn-clause-found : goal.indexed-returns-then-not-is_mark-in-loop-turn-clause-found
-indexed-returns-then-not-is_mark-in-loop-turn-clause-found t c =
+pub indexed-returns-then-not-is_mark-2-clause-found : goal.indexed-returns-then-not-is_mark-2-clause-found
+indexed-returns-then-not-is_mark-2-clause-found t c =
     let open_ = peek_is mark.SquareOpen c.peek.result (rw c.is_mark.ensures at c.if-not-is_mark.false) in
-    let other = rw (c.is_mark-in-loop-turn.ensures, c.peek-in-loop-turn.ensures) at c.if-not-is_mark-in-loop-turn.true in
+    let other = rw (c.is_mark-in-loop-turn.ensures, c.peek-in-loop-turn.ensures) at c.if-not-is_mark-2.true in
     sym c.loop-turn.invariant.found
     ∙ index_open _ _ _ _ _ _ (view c.in_ok-at.at) c.peek.result (turns _ _ c.loop-turn-test.true) c.peek.ensures open_ (rw c.after.ensures at c.in_ok-at.ensures.found) (not_squared (peek c.in_ok-at.at.rest.now) other)
 
 pub indexed-loop-turn-preserved : goal.indexed-loop-turn-preserved
 indexed-loop-turn-preserved t c =
     let open_ = peek_is mark.SquareOpen c.peek.result (rw c.is_mark.ensures at c.if-not-is_mark.false) in
-    let close = peek_is mark.SquareClose (peek c.in_ok-at.at.rest.now) (rw (c.is_mark-in-loop-turn.ensures, c.peek-in-loop-turn.ensures) at c.if-not-is_mark-in-loop-turn.false) in
+    let close = peek_is mark.SquareClose (peek c.in_ok-at.at.rest.now) (rw (c.is_mark-in-loop-turn.ensures, c.peek-in-loop-turn.ensures) at c.if-not-is_mark-2.false) in
     let height : c.in_ok-sofar.sofar.height ≡ suc (max c.loop-turn.sofar.height c.in_ok-at.at.height) = ap (λ (g : Got). g.height) c.in_ok-sofar.ensures in
     let next = index_goes_on (parse c.args.below) c.args.below (suc c.args.below - c.loop-turn._turn) _ c.args.spot (view c.loop-turn.sofar) (view c.in_ok-at.at) c.peek.result
     (turns _ _ c.loop-turn-test.true) c.peek.ensures open_ (omega (arith, c.if-below-sofar.false)) (rw c.after.ensures at c.in_ok-at.ensures.found) close in
