@@ -6,14 +6,14 @@ use Rattle.vale_syntax.specs.declared.mark.Mark.TheVariants as mark
 use Rattle.vale_syntax.specs.declared.lookahead.Lookahead.{Lookahead}
 use Rattle.vale_syntax.specs.declared.lookahead.Lookahead.TheVariants as see
 use Rattle.vale_syntax.specs.Trees.{Exs}
-use Rattle.vale_syntax.specs.Parse.{Got, GotList, squared, indexed_by, others_by}
+use Rattle.vale_syntax.specs.inner.Parse.{Got, GotList, square_by, indices_by, others_by}
 use Rattle.vale_syntax.specs.inner.Marks.{is_mark}
 
-pub not_indexed : (f : Lookahead) → is_mark mark.SquareOpen f ≡ false → (b : ℕ) (g : Got) (go : Option Got) → indexed_by f b g go ≡ Some g
+pub not_indexed : (f : Lookahead) → is_mark mark.SquareOpen f ≡ false → (b : ℕ) (g : Got) (go : Option Got) → indices_by f b g go ≡ Some g
 not_indexed (see.Mark mark.SquareOpen) h b g go = absurd (false≢true (sym h))
 not_indexed _ h b g go = refl
 
-pub not_squared : (f : Lookahead) → is_mark mark.SquareClose f ≡ false → (go : Option Got) → squared f go ≡ None
+pub not_squared : (f : Lookahead) → is_mark mark.SquareClose f ≡ false → (go : Option Got) → square_by f go ≡ None
 not_squared (see.Mark mark.SquareClose) h go = absurd (false≢true (sym h))
 not_squared _ h go = refl
 

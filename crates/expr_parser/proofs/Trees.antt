@@ -1,7 +1,8 @@
 -- Lists of trees.
 use Rattle.std.proofs.Common.{◌≡◌, List, [], ◌∷◌, ◌++◌, map, refl, ap}
 use Rattle.vale_syntax.specs.declared.expr.Expr.{Expr}
-use Rattle.vale_syntax.specs.Trees.{more, exs, with_last, tree}
+use Rattle.vale_syntax.specs.Trees.{more, with_last}
+use Rattle.vale_syntax.specs.inner.CodeTrees.{exs, tree}
 
 -- one more at the end
 pub exs_last : (xs : List Expr) (y : Expr) → exs (map tree (xs ++ y ∷ [])) ≡ with_last (exs (map tree xs)) (tree y)

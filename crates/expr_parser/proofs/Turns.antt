@@ -11,7 +11,8 @@ use Rattle.vale_syntax.specs.declared.lookahead.Lookahead.TheVariants as see
 use Rattle.vale_syntax.specs.Operators.{any, right_of, again_of}
 use Rattle.vale_syntax.specs.Peek.{peek}
 use Rattle.vale_syntax.specs.Trees.{Exs, with_last, Index, Binary}
-use Rattle.vale_syntax.specs.Parse.{Got, got, got_list, ◌>>=◌ as ◌>=>◌, operator, Parser, squared, others_by, others, indexed_by, indexed, chain_by, chain}
+use Rattle.vale_syntax.specs.Options.{◌>>=◌ as ◌>=>◌}
+use Rattle.vale_syntax.specs.inner.Parse.{Got, got, got_list, operator, Parser, square_by, others_by, others, indices_by, indices, chain_by, chain}
 
 refused : {A : Type 0} (t : Bool) (o : Option A) → o ≡ None → cond t o None ≡ None
 refused true o h = h
@@ -43,25 +44,25 @@ pub chain_goes_on : (sub : Parser) (b n m r : ℕ) (s : Spot) (g h : Got) (f : O
 chain_goes_on sub b n m r s g h f o e p q k i = chain_turn sub b n m r s g f e p ∙ rw q (within b g.height _ k ∙ rw i refl)
 
 -- indices
-index_turn : (sub : Parser) (b n m : ℕ) (s : Spot) (g : Got) (f : Lookahead) → n ≡ suc m → f ≡ peek g.rest → indexed sub b n s g ≡ indexed_by f b g (sub any (drop 1 g.rest) >=> λ h.
-    squared (peek h.rest) (indexed sub b m s (got (Index s g.tree h.tree) (suc (max g.height h.height)) (drop 1 h.rest))))
-unfolding indexed
-index_turn sub b n m s g f e p = ap (λ k. indexed sub b k s g) e ∙ rw p refl
+index_turn : (sub : Parser) (b n m : ℕ) (s : Spot) (g : Got) (f : Lookahead) → n ≡ suc m → f ≡ peek g.rest → indices sub b n s g ≡ indices_by f b g (sub any (drop 1 g.rest) >=> λ h.
+    square_by (peek h.rest) (indices sub b m s (got (Index s g.tree h.tree) (suc (max g.height h.height)) (drop 1 h.rest))))
+unfolding indices
+index_turn sub b n m s g f e p = ap (λ k. indices sub b k s g) e ∙ rw p refl
 
-pub index_stops : (sub : Parser) (b n m : ℕ) (s : Spot) (g : Got) (f : Lookahead) → n ≡ suc m → f ≡ peek g.rest → ((o : Option Got) → indexed_by f b g o ≡ Some g) → indexed sub b n s g ≡ Some g
+pub index_stops : (sub : Parser) (b n m : ℕ) (s : Spot) (g : Got) (f : Lookahead) → n ≡ suc m → f ≡ peek g.rest → ((o : Option Got) → indices_by f b g o ≡ Some g) → indices sub b n s g ≡ Some g
 index_stops sub b n m s g f e p q = index_turn sub b n m s g f e p ∙ q _
 
-pub index_high : (sub : Parser) (b n m : ℕ) (s : Spot) (g : Got) (f : Lookahead) → n ≡ suc m → f ≡ peek g.rest → f ≡ see.Mark mark.SquareOpen → b < g.height → indexed sub b n s g ≡ None
+pub index_high : (sub : Parser) (b n m : ℕ) (s : Spot) (g : Got) (f : Lookahead) → n ≡ suc m → f ≡ peek g.rest → f ≡ see.Mark mark.SquareOpen → b < g.height → indices sub b n s g ≡ None
 index_high sub b n m s g f e p q h = index_turn sub b n m s g f e p ∙ rw q (too_high b g.height _ h)
 
-pub index_fails : (sub : Parser) (b n m : ℕ) (s : Spot) (g : Got) (f : Lookahead) → n ≡ suc m → f ≡ peek g.rest → f ≡ see.Mark mark.SquareOpen → sub any (drop 1 g.rest) ≡ None → indexed sub b n s g ≡ None
+pub index_fails : (sub : Parser) (b n m : ℕ) (s : Spot) (g : Got) (f : Lookahead) → n ≡ suc m → f ≡ peek g.rest → f ≡ see.Mark mark.SquareOpen → sub any (drop 1 g.rest) ≡ None → indices sub b n s g ≡ None
 index_fails sub b n m s g f e p q h = index_turn sub b n m s g f e p ∙ rw q (refused (nat_le g.height b) _ (rw h refl))
 
-pub index_open : (sub : Parser) (b n m : ℕ) (s : Spot) (g h : Got) (f : Lookahead) → n ≡ suc m → f ≡ peek g.rest → f ≡ see.Mark mark.SquareOpen → sub any (drop 1 g.rest) ≡ Some h → ((o : Option Got) → squared (peek h.rest) o ≡ None) → indexed sub b n s g ≡ None
+pub index_open : (sub : Parser) (b n m : ℕ) (s : Spot) (g h : Got) (f : Lookahead) → n ≡ suc m → f ≡ peek g.rest → f ≡ see.Mark mark.SquareOpen → sub any (drop 1 g.rest) ≡ Some h → ((o : Option Got) → square_by (peek h.rest) o ≡ None) → indices sub b n s g ≡ None
 index_open sub b n m s g h f e p q i k = index_turn sub b n m s g f e p ∙ rw q (refused (nat_le g.height b) _ (rw i (k _)))
 
 pub index_goes_on : (sub : Parser) (b n m : ℕ) (s : Spot) (g h : Got) (f : Lookahead) → n ≡ suc m → f ≡ peek g.rest → f ≡ see.Mark mark.SquareOpen → g.height ≤ b → sub any (drop 1 g.rest) ≡ Some h → peek h.rest ≡ see.Mark mark.SquareClose
-    → indexed sub b n s g ≡ indexed sub b m s (got (Index s g.tree h.tree) (suc (max g.height h.height)) (drop 1 h.rest))
+    → indices sub b n s g ≡ indices sub b m s (got (Index s g.tree h.tree) (suc (max g.height h.height)) (drop 1 h.rest))
 index_goes_on sub b n m s g h f e p q k i l = index_turn sub b n m s g f e p ∙ rw q (within b g.height _ k ∙ rw (i, l) refl)
 
 -- arguments
@@ -84,9 +85,9 @@ pub chain_done : (sub : Parser) (b n r : ℕ) (s : Spot) (g : Got) → n ≡ 0 �
 unfolding chain
 chain_done sub b n r s g e = ap (λ k. chain sub b k r s g) e
 
-pub index_done : (sub : Parser) (b n : ℕ) (s : Spot) (g : Got) → n ≡ 0 → indexed sub b n s g ≡ Some g
-unfolding indexed
-index_done sub b n s g e = ap (λ k. indexed sub b k s g) e
+pub index_done : (sub : Parser) (b n : ℕ) (s : Spot) (g : Got) → n ≡ 0 → indices sub b n s g ≡ Some g
+unfolding indices
+index_done sub b n s g e = ap (λ k. indices sub b k s g) e
 
 pub others_done : (sub : Parser) (n : ℕ) (xs : Exs) (d : ℕ) (ts : List Token) → n ≡ 0 → others sub n xs d ts ≡ None
 unfolding others

@@ -3,9 +3,9 @@
 ghost use Rattle.std.specs.Prelude.{◌≡◌, ◌≤ℤ◌, pos, drop, IfOk, IfSome};
 ghost use Rattle.vale_syntax.specs.Peek.{spot_of};
 ghost use Rattle.vale_syntax.specs.Operators.{rank_of};
-ghost use Rattle.vale_syntax.specs.Expressions.{whole, counted, negated, name_of, leaf, leaf_by};
-ghost use Rattle.vale_syntax.specs.Parse.{operator};
-ghost use Rattle.vale_syntax.specs.Trees.{tree};
+ghost use Rattle.vale_syntax.specs.Expressions.{whole_number, minus_number_by, minus_number, name_of, leaf, leaf_by};
+ghost use Rattle.vale_syntax.specs.inner.Parse.{operator};
+ghost use Rattle.vale_syntax.specs.inner.CodeTrees.{tree};
 ghost use Rattle.vale_syntax.specs.inner.Matches.{Gives};
 
 use std::alloc::{AllocError, Global};
@@ -50,7 +50,7 @@ pub fn name_of(alloc: Global, tokens: &[Token]) -> Result<Name, AllocError>
 }
 
 fn whole(value: u128) -> Option<i128>
-    ensures value { result ≡ whole value }
+    ensures value { result ≡ whole_number value }
     ensures natural { IfSome result (λ z. pos 0 ≤ℤ z) }
 {
     if value < WHOLE_LIMIT {
@@ -61,9 +61,9 @@ fn whole(value: u128) -> Option<i128>
 }
 
 /// The number that a `-` at the front makes negative.
-#[tactic(auto, unfolding(crate::specs::Looks::negated))]
+#[tactic(auto, unfolding(crate::specs::inner::Looks::minus_number))]
 pub(crate) fn negated(tokens: &[Token]) -> Option<i128>
-    ensures value { result ≡ negated tokens.now }
+    ensures value { result ≡ minus_number tokens.now }
     ensures natural { IfSome result (λ z. pos 0 ≤ℤ z) }
 {
     match (peek(after(tokens, 1)), peek(after(tokens, 2))) {
@@ -84,7 +84,7 @@ pub(crate) fn operator(rank: u8, token: Lookahead) -> Option<BinaryOp>
 }
 
 /// The expression that the first token is by itself.
-#[tactic(auto, unfolding(crate::specs::Looks::leaf))]
+#[tactic(auto, unfolding(crate::specs::inner::Looks::leaf))]
 pub(crate) fn leaf(alloc: Global, tokens: &[Token]) -> Result<Expr, MatchFault>
     ensures { Gives tree result (leaf tokens.now) }
 {

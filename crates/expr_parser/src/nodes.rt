@@ -1,9 +1,10 @@
 // An expression that was read, and how larger ones are made of it.
 
 ghost use Rattle.std.specs.Prelude.{◌≡◌, ◌<◌, IfOk, map, max, suc};
-ghost use Rattle.vale_syntax.specs.Parse.{got, got_list};
-ghost use Rattle.vale_syntax.specs.Trees.{tree, exs, none, with_last, Unary, Index, Binary};
-ghost use Rattle.expr_parser.specs.Reads.{view, view_list};
+ghost use Rattle.vale_syntax.specs.inner.Parse.{got, got_list};
+ghost use Rattle.vale_syntax.specs.Trees.{none, with_last, Unary, Index, Binary};
+ghost use Rattle.vale_syntax.specs.inner.CodeTrees.{tree, exs};
+ghost use Rattle.expr_parser.specs.inner.Reads.{view, view_list};
 
 use sqlite_items::{Boxed, Items};
 use std::alloc::{AllocError, Global};

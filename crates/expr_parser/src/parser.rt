@@ -3,12 +3,13 @@
 
 ghost use Rattle.std.specs.Prelude.{◌≡◌, ◌<◌, ◌≤◌, suc, max, drop, IfOk, IsErrOf};
 ghost use Rattle.vale_syntax.specs.Peek.{peek};
-ghost use Rattle.vale_syntax.specs.Trees.{Ex, tree};
+ghost use Rattle.vale_syntax.specs.Trees.{Ex};
+ghost use Rattle.vale_syntax.specs.inner.CodeTrees.{tree};
 ghost use Rattle.vale_syntax.specs.Expressions.{IsExpr, leaf};
-ghost use Rattle.vale_syntax.specs.Parse.{alone, round, prefixed, others, arguments, named_by, atom, indexed, unary, chain, ranked, parse, read};
+ghost use Rattle.vale_syntax.specs.inner.Parse.{leaf_parse, round_parse, prefix_parse, others, arguments, name_by, atom, indices, unary, chain, rank_parse, parse, whole_parse};
 ghost use Rattle.vale_syntax.specs.declared.fault.MatchFault.TheVariants.{NoMatch};
 ghost use Rattle.vale_syntax.specs.inner.Matches.{Gives};
-ghost use Rattle.expr_parser.specs.Reads.{expression, view, view_list};
+ghost use Rattle.expr_parser.specs.inner.Reads.{expression, view, view_list};
 
 use crate::lists::{after, leaf, name_of, negated, operator, spot_of};
 use crate::nodes::{self, Parsed, ParsedList};
@@ -35,7 +36,7 @@ pub fn read_expr(alloc: Global, tokens: &[Token]) -> Result<Expr, MatchFault>
 
 /// The expression that the tokens begin with, and the tokens behind it: the longest that no operator, bracket or index
 /// goes on.
-#[tactic(auto, unfolding(crate::specs::Reads::expression))]
+#[tactic(auto, unfolding(crate::specs::inner::Reads::expression))]
 pub fn read_front<'a>(alloc: Global, tokens: &'a [Token]) -> Result<(Expr, &'a [Token]), MatchFault>
     ensures { Gives (λ p. (tree p.0, p.1.now)) result (expression tokens.now) }
 {
@@ -43,9 +44,9 @@ pub fn read_front<'a>(alloc: Global, tokens: &'a [Token]) -> Result<(Expr, &'a [
     Ok((found.tree, found.rest))
 }
 
-#[tactic(auto, unfolding(crate::specs::Looks::read, crate::specs::Reads::expression))]
+#[tactic(auto, unfolding(crate::specs::inner::Looks::whole_parse, crate::specs::inner::Reads::expression))]
 fn whole(alloc: Global, tokens: &[Token]) -> Result<Expr, MatchFault>
-    ensures { Gives tree result (read tokens.now) }
+    ensures { Gives tree result (whole_parse tokens.now) }
 {
     let (found, rest) = read_front(alloc, tokens)?;
     match rest {
@@ -56,7 +57,7 @@ fn whole(alloc: Global, tokens: &[Token]) -> Result<Expr, MatchFault>
 
 // The expression of a rank at the front, with a depth of at most `left`.
 #[cycle(expression)]
-#[tactic(auto, unfolding(crate::specs::Looks::parse))]
+#[tactic(auto, unfolding(crate::specs::inner::Looks::parse))]
 fn part<'a>(alloc: Global, tokens: &'a [Token], rank: u8, left: u8) -> Result<Parsed<'a>, MatchFault>
     ensures found { Gives view result (parse left rank tokens.now) }
     ensures shallow { IfOk result (λ p. p.height ≤ left) }
@@ -69,7 +70,7 @@ fn part<'a>(alloc: Global, tokens: &'a [Token], rank: u8, left: u8) -> Result<Pa
 
 // An expression of a rank.
 #[cycle(expression)]
-#[tactic(auto, unfolding(crate::specs::Looks::ranked))]
+#[tactic(auto, unfolding(crate::specs::inner::Looks::rank_parse))]
 fn ranked<'a>(
     alloc: Global,
     tokens: &'a [Token],
@@ -77,7 +78,7 @@ fn ranked<'a>(
     below: u8,
 ) -> Result<Parsed<'a>, MatchFault>
     requires { below < 255 }
-    ensures found { Gives view result (ranked (parse below) below rank tokens.now) }
+    ensures found { Gives view result (rank_parse (parse below) below rank tokens.now) }
     ensures shallow { IfOk result (λ p. p.height ≤ suc below) }
 {
     if rank == 0 {
@@ -118,7 +119,7 @@ fn chain<'a>(
 }
 
 #[cycle(expression)]
-#[tactic(auto, unfolding(crate::specs::Looks::unary))]
+#[tactic(auto, unfolding(crate::specs::inner::Looks::unary))]
 fn unary<'a>(alloc: Global, tokens: &'a [Token], below: u8) -> Result<Parsed<'a>, MatchFault>
     requires { below < 255 }
     ensures found { Gives view result (unary (parse below) below tokens.now) }
@@ -150,7 +151,7 @@ fn prefixed<'a>(
     below: u8,
 ) -> Result<Parsed<'a>, MatchFault>
     requires { below < 255 }
-    ensures found { Gives view result (prefixed (parse below) op tokens.now) }
+    ensures found { Gives view result (prefix_parse (parse below) op tokens.now) }
     ensures shallow { IfOk result (λ p. p.height ≤ suc below) }
 {
     let inner = part(alloc, after(tokens, 1), 0, below)?;
@@ -167,7 +168,7 @@ fn indexed<'a>(
 ) -> Result<Parsed<'a>, MatchFault>
     requires room { below < 255 }
     requires first { first.height ≤ suc below }
-    ensures found { Gives view result (indexed (parse below) below (suc below) spot (view first.entry)) }
+    ensures found { Gives view result (indices (parse below) below (suc below) spot (view first.entry)) }
     ensures shallow { IfOk result (λ p. p.height ≤ suc below) }
 {
     let mut sofar = first;
@@ -189,7 +190,7 @@ fn indexed<'a>(
 }
 
 #[cycle(expression)]
-#[tactic(auto, unfolding(crate::specs::Looks::atom))]
+#[tactic(auto, unfolding(crate::specs::inner::Looks::atom))]
 fn atom<'a>(alloc: Global, tokens: &'a [Token], below: u8) -> Result<Parsed<'a>, MatchFault>
     requires { below < 255 }
     ensures found { Gives view result (atom (parse below) tokens.now) }
@@ -204,7 +205,7 @@ fn atom<'a>(alloc: Global, tokens: &'a [Token], below: u8) -> Result<Parsed<'a>,
 
 // A token that is an expression by itself.
 fn alone<'a>(alloc: Global, tokens: &'a [Token]) -> Result<Parsed<'a>, MatchFault>
-    ensures found { Gives view result (alone (leaf tokens.now) tokens.now) }
+    ensures found { Gives view result (leaf_parse (leaf tokens.now) tokens.now) }
     ensures shallow { IfOk result (λ p. p.height ≤ 1) }
 {
     Ok(Parsed {
@@ -218,7 +219,7 @@ fn alone<'a>(alloc: Global, tokens: &'a [Token]) -> Result<Parsed<'a>, MatchFaul
 #[cycle(expression)]
 fn bracketed<'a>(alloc: Global, tokens: &'a [Token], below: u8) -> Result<Parsed<'a>, MatchFault>
     requires { below < 255 }
-    ensures found { Gives view result (round (parse below) tokens.now) }
+    ensures found { Gives view result (round_parse (parse below) tokens.now) }
     ensures shallow { IfOk result (λ p. p.height ≤ suc below) }
 {
     let inner = part(alloc, after(tokens, 1), ANY, below)?;
@@ -236,7 +237,7 @@ fn bracketed<'a>(alloc: Global, tokens: &'a [Token], below: u8) -> Result<Parsed
 #[cycle(expression)]
 fn named<'a>(alloc: Global, tokens: &'a [Token], below: u8) -> Result<Parsed<'a>, MatchFault>
     requires { below < 255 }
-    ensures found { Gives view result (named_by (parse below) (peek (drop 1 tokens.now)) tokens.now) }
+    ensures found { Gives view result (name_by (parse below) (peek (drop 1 tokens.now)) tokens.now) }
     ensures shallow { IfOk result (λ p. p.height ≤ suc below) }
 {
     let Lookahead::Mark(Mark::RoundOpen) = peek(after(tokens, 1)) else {
@@ -252,7 +253,7 @@ fn named<'a>(alloc: Global, tokens: &'a [Token], below: u8) -> Result<Parsed<'a>
 
 // What stands in the round brackets of a call, the closing one included.
 #[cycle(expression)]
-#[tactic(auto, unfolding(crate::specs::Looks::arguments))]
+#[tactic(auto, unfolding(crate::specs::inner::Looks::arguments))]
 fn arguments<'a>(alloc: Global, tokens: &'a [Token], below: u8) -> Result<ParsedList<'a>, MatchFault>
     ensures found { Gives view_list result (arguments (parse below) tokens.now) }
     ensures shallow { IfOk result (λ p. p.height ≤ below) }

@@ -20,15 +20,16 @@ use Rattle.x64_syntax.specs.Words.{is_export_text, is_reserved_name}
 use Rattle.x64_syntax.proofs.PlaceLemmas.{reg_eq_is}
 use Rattle.vale_syntax.specs.declared.expr.Name.{Name as AName}
 use Rattle.vale_syntax.specs.declared.declaration.ReadPlace.{ReadPlace}
-use Rattle.vale_syntax.specs.Parse.{◌>>=◌}
+use Rattle.vale_syntax.specs.Options.{◌>>=◌}
 use Rattle.vale_syntax.specs.Trees.{Ex, Int, Name}
-use Rattle.vale_syntax.specs.Programs.{Ar, Value, Cl, St, Call, Reads, Modifies, Ensures, De, Procedure, Export}
+use Rattle.vale_syntax.specs.Programs.{Ar, Value, Cl, St, CallStatement, Reads, Modifies, Ensures, De, Procedure, Export}
 use Rattle.vale_syntax.proofs.Sound.{bind_some}
 use Rattle.vale_syntax.specs.declared.fault.MatchFault.{MatchFault}
 use Rattle.straight_line.specs.declared.form.Promise.{Promise}
 use Rattle.straight_line.specs.declared.form.StraightLine.{StraightLine}
 use Rattle.vale_syntax.specs.inner.Matches.{Gives}
-use Rattle.straight_line.specs.Form.{but_rsp, register, among, listed, unless, readable, reads_from, modified, promise, named, signed_word, constant, source, instruction, operands, statement, listed_sts, statements_from, statement_limit, body, clauses_of, are_names, procedure_, pair_of, has, IsSource, IsInstruction, IsStraight}
+use Rattle.straight_line.specs.Form.{but_rsp, register, among, listed_register, unless, readable_register, reads_from, are_modified, promise, named_register, signed_word, constant, source, instruction, operands, statement, statement_list, statements_from, statement_limit, body, clauses_of, are_names, procedure_, pair_of, has}
+use Rattle.straight_line.specs.inner.Fits.{IsSource, IsInstruction, IsStraight}
 
 all_last : {A : Type 0} (P : A → Type 0) (xs : List A) (x : A) → AllByRecursion P xs → P x → AllByRecursion P (xs ++ x ∷ [])
 all_last P [] x h k = (k, tt)
@@ -47,10 +48,10 @@ found rs r q h =
     let same = reg_eq_is q r (passes (λ x. reg_eq x r) rs q h) in
     ap (λ o. is_some o) (ap (among rs) same ∙ h)
 
-listed_has : (rs : List GeneralReg) (n : AName) (q : GeneralReg) → listed rs n ≡ Some q → has rs q ≡ true
+listed_has : (rs : List GeneralReg) (n : AName) (q : GeneralReg) → listed_register rs n ≡ Some q → has rs q ≡ true
 listed_has rs n q h = let (r, e, k) = bind_some (register n) (among rs) q h in found rs r q k
 
-named_has : (rs : List GeneralReg) (x : Ex) (q : GeneralReg) → named rs x ≡ Some q → has rs q ≡ true
+named_has : (rs : List GeneralReg) (x : Ex) (q : GeneralReg) → named_register rs x ≡ Some q → has rs q ≡ true
 named_has rs (Name n) q h = listed_has rs n q h
 named_has rs _ q h = absurd cc
 
@@ -94,8 +95,8 @@ source_fits rs n lowest end (Int s z) o fits h =
     let (i, e, k) = bind_some (constant lowest end z) (λ i. Some (Imm i)) o h in
     let same : Imm i ≡ o = cc in
     subst (IsSource rs n) same (fits z i e)
-source_fits rs n lowest end x o fits h = of_register (named rs x) refl h where
-  of_register : (found : Option GeneralReg) → named rs x ≡ found → (found >>= λ r. Some (R r)) ≡ Some o → IsSource rs n o
+source_fits rs n lowest end x o fits h = of_register (named_register rs x) refl h where
+  of_register : (found : Option GeneralReg) → named_register rs x ≡ found → (found >>= λ r. Some (R r)) ≡ Some o → IsSource rs n o
   of_register None e k = absurd cc
   of_register (Some r) e k = let same : R r ≡ o = cc in subst (IsSource rs n) same (named_has rs x r e)
 
@@ -117,12 +118,12 @@ instruction_fits rs name d x i h k = by_move (bytes_eq name (codes "Mov64")) k w
 
 operands_fit : (rs : List GeneralReg) (name : List ℕ) (xs : List Ar) (i : Ins) → operands rs name xs ≡ Some i → IsInstruction rs i
 operands_fit rs name (Value a ∷ Value b ∷ []) i h =
-    let (d, e, k) = bind_some (named rs a) (λ d. instruction rs name d b) i h in
+    let (d, e, k) = bind_some (named_register rs a) (λ d. instruction rs name d b) i h in
     instruction_fits rs name d b i (named_has rs a d e) k
 operands_fit rs name _ i h = absurd cc
 
 statement_fits : (rs : List GeneralReg) (x : St) (i : Ins) → statement rs x ≡ Some i → IsInstruction rs i
-statement_fits rs (Call f xs) i h = operands_fit rs f.text xs i h
+statement_fits rs (CallStatement f xs) i h = operands_fit rs f.text xs i h
 statement_fits rs _ i h = absurd cc
 
 statements_fit : (rs : List GeneralReg) (before : List Ins) (xs : List St) (is : List Ins) → AllByRecursion (IsInstruction rs) before → statements_from rs before xs ≡ Some is → AllByRecursion (IsInstruction rs) is
@@ -147,7 +148,7 @@ no_rsp_yet (q ∷ rs) r h k = by_test (λ m. no_rsp_yet rs r m k) (reg_eq q Rsp)
   by_test go true e m = absurd (false≢true (sym m))
   by_test go false e m = ap (λ b. is_some (cond b (Some q) (among (rs ++ r ∷ []) Rsp))) e ∙ go m
 
-readable_fits : (before : List GeneralReg) (p : ReadPlace) (r : GeneralReg) → readable before p ≡ Some r → reg_eq r Rsp ≡ false
+readable_fits : (before : List GeneralReg) (p : ReadPlace) (r : GeneralReg) → readable_register before p ≡ Some r → reg_eq r Rsp ≡ false
 readable_fits before p r h = by_secret p.is_secret h where
   of_register : (q : GeneralReg) (o : Option GeneralReg) → unless o q ≡ Some r → q ≡ r
   of_register q (Some x) e = absurd cc
@@ -163,13 +164,13 @@ reads_fit : (before : List GeneralReg) (ps : List ReadPlace) (rs : List GeneralR
 unfolding reads_from
 reads_fit before [] rs ok h = let same : before ≡ rs = cc in subst (λ l. has l Rsp ≡ false) same ok
 reads_fit before (p ∷ ps) rs ok h =
-    let (r, e, k) = bind_some (readable before p) (λ r. reads_from (before ++ r ∷ []) ps) rs h in
+    let (r, e, k) = bind_some (readable_register before p) (λ r. reads_from (before ++ r ∷ []) ps) rs h in
     reads_fit (before ++ r ∷ []) ps rs (no_rsp_yet before r ok (readable_fits before p r e)) k
 
 clauses_fit : (cs : List Cl) (c : List GeneralReg × Promise) → clauses_of cs ≡ Some c → has c.0 Rsp ≡ false
 clauses_fit (Reads s ps ∷ Modifies t ns ∷ Ensures u x ∷ []) c h =
-    let (rs, e, k) = bind_some (reads_from [] ps) (λ rs. cond (modified rs ns) (promise rs x >>= λ e. Some (rs, e)) None) c h in
-    by_names rs (modified rs ns) (reads_fit [] ps rs refl e) k where
+    let (rs, e, k) = bind_some (reads_from [] ps) (λ rs. cond (are_modified rs ns) (promise rs x >>= λ e. Some (rs, e)) None) c h in
+    by_names rs (are_modified rs ns) (reads_fit [] ps rs refl e) k where
       by_names : (rs : List GeneralReg) (b : Bool) → has rs Rsp ≡ false → cond b (promise rs x >>= λ e. Some (rs, e)) None ≡ Some c → has c.0 Rsp ≡ false
       by_names rs false ok k = absurd cc
       by_names rs true ok k =
@@ -196,8 +197,8 @@ procedure_fits name cs xs export p ok h =
 
 pair_fits : (d e : De) (p : StraightLine) → pair_of d e ≡ Some p → IsStraight p
 pair_fits (Procedure s n ps cs xs) (Export t x q args) p h = by_test (((length ps == 0) && (length args == 0)) && are_names n.text x.text q.text) refl h where
-  by_test : (b : Bool) → (((length ps == 0) && (length args == 0)) && are_names n.text x.text q.text ≡ b) → cond b (procedure_ n.text cs (listed_sts xs) x.text) None ≡ Some p → IsStraight p
-  by_test true e k = procedure_fits n.text cs (listed_sts xs) x.text p (and_parts (not (is_reserved_name n.text)) (is_export_text x.text) (and_parts (not (is_reserved_name n.text) && is_export_text x.text) (bytes_eq q.text n.text) (and_parts ((length ps == 0) && (length args == 0)) (are_names n.text x.text q.text) e).1).0).1 k
+  by_test : (b : Bool) → (((length ps == 0) && (length args == 0)) && are_names n.text x.text q.text ≡ b) → cond b (procedure_ n.text cs (statement_list xs) x.text) None ≡ Some p → IsStraight p
+  by_test true e k = procedure_fits n.text cs (statement_list xs) x.text p (and_parts (not (is_reserved_name n.text)) (is_export_text x.text) (and_parts (not (is_reserved_name n.text) && is_export_text x.text) (bytes_eq q.text n.text) (and_parts ((length ps == 0) && (length args == 0)) (are_names n.text x.text q.text) e).1).0).1 k
   by_test false e k = absurd cc
 pair_fits _ _ p h = absurd cc
 

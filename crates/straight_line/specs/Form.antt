@@ -14,9 +14,9 @@ use Rattle.x64_syntax.specs.Words.{is_reserved_name, is_export_text}
 use Rattle.vale_syntax.specs.declared.mark.BinaryOp.TheVariants as op
 use Rattle.vale_syntax.specs.declared.expr.Name.{Name as AName}
 use Rattle.vale_syntax.specs.declared.declaration.ReadPlace.{ReadPlace}
-use Rattle.vale_syntax.specs.Parse.{◌>>=◌}
+use Rattle.vale_syntax.specs.Options.{◌>>=◌}
 use Rattle.vale_syntax.specs.Trees.{Ex, Exs, Int, Word, Name, Call as CallOf, Binary, none, more}
-use Rattle.vale_syntax.specs.Programs.{Ar, Value, Cl, St, Sts, Call, no_sts, more_sts, Reads, Modifies, Ensures, De, Procedure, Export}
+use Rattle.vale_syntax.specs.Programs.{Ar, Value, Cl, St, Sts, CallStatement, no_sts, more_sts, Reads, Modifies, Ensures, De, Procedure, Export}
 use Rattle.straight_line.specs.declared.form.Promise.{Promise}
 use Rattle.straight_line.specs.declared.form.Promise.TheVariants.{Constant, Old, Sum}
 use Rattle.straight_line.specs.declared.form.StraightLine.{StraightLine}
@@ -33,42 +33,42 @@ abbrev pub among : List GeneralReg → GeneralReg → Option GeneralReg
 among rs r = find (λ q. reg_eq q r) rs
 
 -- a register of the list
-abbrev pub listed : List GeneralReg → AName → Option GeneralReg
-listed rs n = register n >>= among rs
+abbrev pub listed_register : List GeneralReg → AName → Option GeneralReg
+listed_register rs n = register n >>= among rs
 
 abbrev pub unless : Option GeneralReg → GeneralReg → Option GeneralReg
 unless (Some q) r = None
 unless None r = Some r
 
 -- a register that is read, not secret, and none of those before it
-abbrev pub readable : List GeneralReg → ReadPlace → Option GeneralReg
-readable before p = if p.is_secret then None else (register p.name >>= λ r. unless (among before r) r)
+abbrev pub readable_register : List GeneralReg → ReadPlace → Option GeneralReg
+readable_register before p = if p.is_secret then None else (register p.name >>= λ r. unless (among before r) r)
 
 unfoldable pub reads_from : List GeneralReg → List ReadPlace → Option (List GeneralReg)
 reads_from before [] = Some before
-reads_from before (p ∷ ps) = readable before p >>= λ r. reads_from (before ++ r ∷ []) ps
+reads_from before (p ∷ ps) = readable_register before p >>= λ r. reads_from (before ++ r ∷ []) ps
 
 -- the names are those of the registers, in their order, and then `flags`
-unfoldable pub modified : List GeneralReg → List AName → Bool
-modified [] [] = false
-modified [] (n ∷ []) = bytes_eq n.text (codes "flags")
-modified [] (n ∷ m ∷ ns) = false
-modified (r ∷ rs) [] = false
-modified (r ∷ rs) (n ∷ ns) = bytes_eq n.text (reg_name r) && modified rs ns
+unfoldable pub are_modified : List GeneralReg → List AName → Bool
+are_modified [] [] = false
+are_modified [] (n ∷ []) = bytes_eq n.text (codes "flags")
+are_modified [] (n ∷ m ∷ ns) = false
+are_modified (r ∷ rs) [] = false
+are_modified (r ∷ rs) (n ∷ ns) = bytes_eq n.text (reg_name r) && are_modified rs ns
 
 -- a register of the list, as an expression
-abbrev pub named : List GeneralReg → Ex → Option GeneralReg
-named rs (Name n) = listed rs n
-named rs _ = None
+abbrev pub named_register : List GeneralReg → Ex → Option GeneralReg
+named_register rs (Name n) = listed_register rs n
+named_register rs _ = None
 
-abbrev pub alone : List GeneralReg → Exs → Option GeneralReg
-alone rs none = None
-alone rs (more x none) = named rs x
-alone rs (more x (more y ys)) = None
+abbrev pub only_register : List GeneralReg → Exs → Option GeneralReg
+only_register rs none = None
+only_register rs (more x none) = named_register rs x
+only_register rs (more x (more y ys)) = None
 
 -- `old(Q)`
 abbrev pub old_of : List GeneralReg → Ex → Option GeneralReg
-old_of rs (CallOf f xs) = if bytes_eq f.text (codes "old") then alone rs xs else None
+old_of rs (CallOf f xs) = if bytes_eq f.text (codes "old") then only_register rs xs else None
 old_of rs _ = None
 
 -- `Kw`, `old(Q)`, `old(Q) + Kw`
@@ -79,7 +79,7 @@ value rs r x = old_of rs x >>= λ q. Some (Old r q)
 
 -- `R == ..`
 abbrev pub promise : List GeneralReg → Ex → Option Promise
-promise rs (Binary s op.Eq x y) = named rs x >>= λ r. value rs r y
+promise rs (Binary s op.Eq x y) = named_register rs x >>= λ r. value rs r y
 promise rs _ = None
 
 -- a constant from a range, as the number with a sign that is the same word
@@ -92,7 +92,7 @@ constant lowest end z = if int_le lowest z && int_lt z end then Some (signed_wor
 -- the source of an instruction that takes the constants of a range
 abbrev pub source : List GeneralReg → ℤ → ℤ → Ex → Option Opr
 source rs lowest end (Int s z) = constant lowest end z >>= λ i. Some (Imm i)
-source rs lowest end x = named rs x >>= λ r. Some (R r)
+source rs lowest end x = named_register rs x >>= λ r. Some (R r)
 
 -- `Mov64(A, B)`, `Add64(A, B)`
 abbrev pub instruction : List GeneralReg → List ℕ → GeneralReg → Ex → Option Ins
@@ -102,16 +102,16 @@ instruction rs name d x =
     else None
 
 abbrev pub operands : List GeneralReg → List ℕ → List Ar → Option Ins
-operands rs name (Value a ∷ Value b ∷ []) = named rs a >>= λ d. instruction rs name d b
+operands rs name (Value a ∷ Value b ∷ []) = named_register rs a >>= λ d. instruction rs name d b
 operands rs name _ = None
 
 abbrev pub statement : List GeneralReg → St → Option Ins
-statement rs (Call f xs) = operands rs f.text xs
+statement rs (CallStatement f xs) = operands rs f.text xs
 statement rs _ = None
 
-abbrev pub listed_sts : Sts → List St
-listed_sts no_sts = []
-listed_sts (more_sts x xs) = x ∷ listed_sts xs
+abbrev pub statement_list : Sts → List St
+statement_list no_sts = []
+statement_list (more_sts x xs) = x ∷ statement_list xs
 
 unfoldable pub statements_from : List GeneralReg → List Ins → List St → Option (List Ins)
 statements_from rs before [] = Some before
@@ -127,7 +127,7 @@ body rs xs = statements_from rs [] xs >>= λ is. if nat_le 1 (length is) && nat_
 -- a procedure without parameters that reads registers, changes them and the flags, and promises what one of them holds
 abbrev pub clauses_of : List Cl → Option (List GeneralReg × Promise)
 clauses_of (Reads s ps ∷ Modifies t ns ∷ Ensures u x ∷ []) =
-    reads_from [] ps >>= λ rs. if modified rs ns then (promise rs x >>= λ e. Some (rs, e)) else None
+    reads_from [] ps >>= λ rs. if are_modified rs ns then (promise rs x >>= λ e. Some (rs, e)) else None
 clauses_of _ = None
 
 -- the procedure's name may be given and the export's exported, and it is the procedure that is exported
@@ -139,7 +139,7 @@ procedure_ name cs xs export = clauses_of cs >>= λ c. body c.0 xs >>= λ is. So
 
 -- a procedure without parameters, and its export
 abbrev pub pair_of : De → De → Option StraightLine
-pair_of (Procedure s n ps cs xs) (Export t x p args) = if (length ps == 0) && (length args == 0) && are_names n.text x.text p.text then procedure_ n.text cs (listed_sts xs) x.text else None
+pair_of (Procedure s n ps cs xs) (Export t x p args) = if (length ps == 0) && (length args == 0) && are_names n.text x.text p.text then procedure_ n.text cs (statement_list xs) x.text else None
 pair_of d e = None
 
 abbrev pub straight_line : List De → Option StraightLine
@@ -148,23 +148,5 @@ straight_line (d ∷ []) = None
 straight_line (d ∷ e ∷ []) = pair_of d e
 straight_line (d ∷ e ∷ f ∷ ds) = None
 
--- What holds of every procedure of the form: its operands stand in the list of its registers, rsp isn't among them, and
--- its constants are those that the fields of its instructions hold.
 abbrev pub has : List GeneralReg → GeneralReg → Bool
 has rs r = is_some (among rs r)
-
-abbrev pub IsSource : List GeneralReg → ℕ → Opr → Type 0
-IsSource rs n (R s) = has rs s ≡ true
-IsSource rs n (Imm z) = (negsuc (n - 1) ≤ℤ z) × (z <ℤ pos n)
-IsSource rs n (M m) = ⊥
-
-abbrev pub IsInstruction : List GeneralReg → Ins → Type 0
-IsInstruction rs (Mov d s) = (has rs d ≡ true) × IsSource rs (2 ^ 63) s
-IsInstruction rs (Alu alu.Add d s) = (has rs d ≡ true) × IsSource rs (2 ^ 31) s
-IsInstruction rs _ = ⊥
-
-pub record IsStraight (p : StraightLine) : Type 0 where
-  pub export : is_export_text p.export ≡ true
-  pub few : length p.instructions ≤ statement_limit
-  pub rsp : has p.registers Rsp ≡ false
-  pub each : AllByRecursion (IsInstruction p.registers) p.instructions

@@ -1,10 +1,10 @@
 // Clauses of the form.
 
 ghost use Rattle.std.specs.Prelude.{◌≡◌, List, [], map};
-ghost use Rattle.vale_syntax.specs.Trees.{tree, exs};
+ghost use Rattle.vale_syntax.specs.inner.CodeTrees.{tree, exs};
 ghost use Rattle.vale_syntax.specs.inner.Matches.{Gives};
-ghost use Rattle.straight_line.specs.Form.{register, among, listed, named, alone, readable, reads_from, modified, old_of, value, promise, clauses_of};
-ghost use Rattle.vale_syntax.specs.Programs.{clause_tree};
+ghost use Rattle.straight_line.specs.Form.{register, among, listed_register, named_register, only_register, readable_register, reads_from, are_modified, old_of, value, promise, clauses_of};
+ghost use Rattle.vale_syntax.specs.inner.CodeTrees.{clause_tree};
 
 use crate::form::Promise;
 use sqlite_items::Items;
@@ -35,13 +35,13 @@ fn among(regs: &[Reg], reg: Reg) -> Option<Reg>
 
 // The register of a name, where it is one of the list.
 fn listed(regs: &[Reg], name: &Name) -> Option<Reg>
-    ensures { result ≡ listed regs.now name.now }
+    ensures { result ≡ listed_register regs.now name.now }
 {
     among(regs, register(name)?)
 }
 
 fn readable(before: &[Reg], place: &ReadPlace) -> Option<Reg>
-    ensures { result ≡ readable before.now place.now }
+    ensures { result ≡ readable_register before.now place.now }
 {
     if place.is_secret {
         return None;
@@ -69,9 +69,9 @@ fn registers(alloc: Global, places: &[ReadPlace]) -> Result<Items<Reg>, MatchFau
 }
 
 // Whether the names are those of the registers, and then `flags`.
-#[tactic(auto, unfolding(crate::specs::Form::modified))]
+#[tactic(auto, unfolding(crate::specs::Form::are_modified))]
 fn are_modified(regs: &[Reg], names: &[Name]) -> bool
-    ensures { result ≡ modified regs.now names.now }
+    ensures { result ≡ are_modified regs.now names.now }
 {
     match regs {
         [] => match names {
@@ -89,7 +89,7 @@ fn are_modified(regs: &[Reg], names: &[Name]) -> bool
 
 /// The register that an expression is, where it is one of the list.
 pub(crate) fn named(regs: &[Reg], e: &Expr) -> Option<Reg>
-    ensures { result ≡ named regs.now (tree e.now) }
+    ensures { result ≡ named_register regs.now (tree e.now) }
 {
     match e {
         Expr::Name(name) => listed(regs, name),
@@ -98,7 +98,7 @@ pub(crate) fn named(regs: &[Reg], e: &Expr) -> Option<Reg>
 }
 
 fn alone(regs: &[Reg], args: &[Expr]) -> Option<Reg>
-    ensures { result ≡ alone regs.now (exs (map tree args.now)) }
+    ensures { result ≡ only_register regs.now (exs (map tree args.now)) }
 {
     match args {
         [] => None,

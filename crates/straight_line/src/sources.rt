@@ -1,9 +1,10 @@
 // Whole sources of the form.
 
 ghost use Rattle.std.specs.Prelude.{◌≡◌, map, IfOk};
-ghost use Rattle.vale_syntax.specs.Programs.{decl_tree, clause_tree, stmt_tree, sts};
+ghost use Rattle.vale_syntax.specs.inner.CodeTrees.{decl_tree, clause_tree, stmt_tree, sts};
 ghost use Rattle.vale_syntax.specs.inner.Matches.{Gives};
-ghost use Rattle.straight_line.specs.Form.{are_names, body, procedure_, pair_of, straight_line, IsStraight};
+ghost use Rattle.straight_line.specs.Form.{are_names, body, procedure_, pair_of, straight_line};
+ghost use Rattle.straight_line.specs.inner.Fits.{IsStraight};
 
 use crate::clauses::read_clauses;
 use crate::form::StraightLine;

@@ -1,8 +1,8 @@
 // Statements of the form.
 
 ghost use Rattle.std.specs.Prelude.{◌≡◌, ◌^◌, ◌-◌, ◌≤ℤ◌, pos, negsuc, [], map};
-ghost use Rattle.vale_syntax.specs.Trees.{tree};
-ghost use Rattle.vale_syntax.specs.Programs.{arg_tree, stmt_tree};
+ghost use Rattle.vale_syntax.specs.inner.CodeTrees.{tree};
+ghost use Rattle.vale_syntax.specs.inner.CodeTrees.{arg_tree, stmt_tree};
 ghost use Rattle.vale_syntax.specs.inner.Matches.{Gives};
 ghost use Rattle.straight_line.specs.Form.{constant, source, instruction, operands, statement, statements_from};
 

@@ -35,7 +35,8 @@ use Rattle.gas_text.specs.Text.{ReadsAs}
 use Rattle.gas_text.proofs.Built.{size, in_range_of_size}
 use Rattle.gas_text.proofs.Once.{one_list}
 use Rattle.straight_line.specs.declared.form.StraightLine.{StraightLine}
-use Rattle.straight_line.specs.Form.{has, IsInstruction, IsStraight}
+use Rattle.straight_line.specs.Form.{has}
+use Rattle.straight_line.specs.inner.Fits.{IsInstruction, IsStraight}
 use Rattle.vale_driver.specs.Certificate.{Pair, Proves}
 use Rattle.vale_driver.specs.Ring.{ring_closes}
 use Rattle.vale_driver.specs.Terms.{is_built}

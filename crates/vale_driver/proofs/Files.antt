@@ -6,7 +6,7 @@ use Rattle.std.specs.List.{AllByRecursion}
 use Rattle.std.proofs.Math.Seq.{drop-cons}
 use Rattle.std.proofs.lemmas.List.{append-nil, length-replicate}
 use Rattle.x64_syntax.proofs.Lists.{same_head, same_tail}
-use Rattle.vale_syntax.specs.Tokens.{Lexed, All, lexed}
+use Rattle.vale_syntax.specs.Tokens.{LexResult, All, tokens_from}
 use Rattle.vale_syntax.specs.Programs.{De}
 use Rattle.vale_syntax.specs.Declarations.{AreDecls}
 use Rattle.straight_line.specs.declared.form.StraightLine.{StraightLine}
@@ -98,12 +98,12 @@ opened_all tells ss k rest all e h = record {
 }
 
 -- one more file has its tokens
-same_scan : (a b : List ℕ) (l m : Lexed) → ◌≡◌ {A = List ℕ × Lexed} (a, l) (b, m) → (a ≡ b) × (l ≡ m)
-same_scan a b l m e = (ap (λ (p : List ℕ × Lexed). p.0) e, ap (λ (p : List ℕ × Lexed). p.1) e)
+same_scan : (a b : List ℕ) (l m : LexResult) → ◌≡◌ {A = List ℕ × LexResult} (a, l) (b, m) → (a ≡ b) × (l ≡ m)
+same_scan a b l m e = (ap (λ (p : List ℕ × LexResult). p.0) e, ap (λ (p : List ℕ × LexResult). p.1) e)
 
 pub scanned_one : (scanned new : List Scanned) (s : Source) (t : Scanned) (rest front all : List Source) → front ≡ s ∷ rest → kept t ≡ scan s → new ≡ scanned ++ t ∷ [] → Scanning scanned front all → Scanning new rest all
 scanned_one scanned new s t rest front all split is pushed h =
-    let both = same_scan t.name.now s.name (All t.tokens.items) (lexed s.number 0 0 s.bytes) is in
+    let both = same_scan t.name.now s.name (All t.tokens.items) (tokens_from s.number 0 0 s.bytes) is in
     let has : HasTokens s = record { tokens = t.tokens.items; all = sym both.1 } in
     let short = subst (AllByRecursion IsShort) split h.short in
     subst (λ l. Scanning l rest all) (sym pushed) record {
@@ -130,7 +130,7 @@ have_tokens : (scs : List Scanned) (ss : List Source) → map kept scs ≡ map s
 have_tokens scs [] e = tt
 have_tokens [] (s ∷ ss) e = absurd cc
 have_tokens (t ∷ scs) (s ∷ ss) e =
-    let both = same_scan t.name.now s.name (All t.tokens.items) (lexed s.number 0 0 s.bytes) (same_head e) in
+    let both = same_scan t.name.now s.name (All t.tokens.items) (tokens_from s.number 0 0 s.bytes) (same_head e) in
     (record { tokens = t.tokens.items; all = sym both.1 }, have_tokens scs ss (same_tail e))
 
 declared : (scs : List Scanned) (ss : List Source) (decls : List De) → map kept scs ≡ map scan ss → Parsed scs decls → Declared ss decls
@@ -138,7 +138,7 @@ declared [] [] decls e h = h
 declared [] (s ∷ ss) decls e h = absurd cc
 declared (t ∷ scs) [] decls e h = absurd cc
 declared (t ∷ scs) (s ∷ ss) decls e h =
-    let both = same_scan t.name.now s.name (All t.tokens.items) (lexed s.number 0 0 s.bytes) (same_head e) in
+    let both = same_scan t.name.now s.name (All t.tokens.items) (tokens_from s.number 0 0 s.bytes) (same_head e) in
     let (xs, ys, are, more, is) = h in
     (xs, ys, record { tokens = t.tokens.items; all = sym both.1; are = are }, declared scs ss ys (same_tail e) more, is)
 
@@ -146,10 +146,10 @@ not_declared : (scs : List Scanned) (ss : List Source) (r : Refusal) → map kep
 not_declared [] ss r e h = absurd h
 not_declared (t ∷ scs) [] r e h = absurd cc
 not_declared (t ∷ scs) (s ∷ ss) r e (inl u) =
-    let both = same_scan t.name.now s.name (All t.tokens.items) (lexed s.number 0 0 s.bytes) (same_head e) in
+    let both = same_scan t.name.now s.name (All t.tokens.items) (tokens_from s.number 0 0 s.bytes) (same_head e) in
     inl record { tokens = t.tokens.items; all = sym both.1; first = u.first; stops = u.stops; is = u.is ∙ ap (λ n. refusal 2 (Some n) (Some u.first.at) (codes "NotADecl")) both.0 }
 not_declared (t ∷ scs) (s ∷ ss) r e (inr h) =
-    let both = same_scan t.name.now s.name (All t.tokens.items) (lexed s.number 0 0 s.bytes) (same_head e) in
+    let both = same_scan t.name.now s.name (All t.tokens.items) (tokens_from s.number 0 0 s.bytes) (same_head e) in
     let (xs, are) = h.0 in
     inr ((xs, record { tokens = t.tokens.items; all = sym both.1; are = are }), not_declared scs ss r (same_tail e) h.1)
 

@@ -2,7 +2,7 @@
 use Rattle.std.specs.Prelude.{◌≡◌, ◌≤◌, ℕ, length, List, [], ◌∷◌, ◌++◌, map, Option, String, string_bytes}
 use Rattle.std.specs.List.{AllByRecursion}
 use Rattle.std.specs.declared.alloc.Global.{Global}
-use Rattle.vale_syntax.specs.Tokens.{Lexed, All, lexed}
+use Rattle.vale_syntax.specs.Tokens.{LexResult, All, tokens_from}
 use Rattle.vale_syntax.specs.Programs.{De}
 use Rattle.vale_syntax.specs.Declarations.{AreDecls}
 use Rattle.vale_driver.specs.declared.words.BuildWords.{BuildWords}
@@ -45,10 +45,10 @@ pub record Opened (tells : List ℕ → Option (List ℕ)) (files : List (List �
   pub short : AllByRecursion IsShort ss
 
 -- a file's name and its tokens, as they are and as they are kept
-abbrev pub scan : Source → List ℕ × Lexed
-scan s = (s.name, lexed s.number 0 0 s.bytes)
+abbrev pub scan : Source → List ℕ × LexResult
+scan s = (s.name, tokens_from s.number 0 0 s.bytes)
 
-abbrev pub kept : Scanned → List ℕ × Lexed
+abbrev pub kept : Scanned → List ℕ × LexResult
 kept s = (s.name.now, All s.tokens.items)
 
 -- the declarations of lists of tokens, one behind the other

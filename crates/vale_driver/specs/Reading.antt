@@ -4,7 +4,7 @@ use Rattle.std.specs.List.{prefix_len}
 use Rattle.std.specs.Str.{bytes_eq}
 use Rattle.std.specs.Str.Parse.{digits_value}
 use Rattle.x64_syntax.specs.Words.{is_digit_byte}
-pub use Rattle.vale_syntax.specs.Parse.{◌>>=◌}
+pub use Rattle.vale_syntax.specs.Options.{◌>>=◌}
 
 -- a value, where a test holds
 abbrev pub given : {A : Type 0} → Bool → A → Option A

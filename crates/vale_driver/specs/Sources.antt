@@ -5,7 +5,7 @@ use Rattle.vale_syntax.specs.declared.spot.Spot.{Spot}
 use Rattle.vale_syntax.specs.declared.token.Token.{Token}
 use Rattle.vale_syntax.specs.declared.token.NotAToken.{NotAToken}
 use Rattle.vale_syntax.specs.declared.token.NotAToken.TheVariants.{BadByte, NumberTooLarge, OpenComment}
-use Rattle.vale_syntax.specs.Tokens.{lexed, All, Nothing}
+use Rattle.vale_syntax.specs.Tokens.{tokens_from, All, Nothing}
 use Rattle.vale_syntax.specs.Programs.{De}
 use Rattle.vale_syntax.specs.Declarations.{AreDecls}
 use Rattle.vale_parser.specs.Sources.{StopsAt}
@@ -58,18 +58,18 @@ cause_of OpenComment = codes "OpenComment"
 
 pub record HasTokens (s : Source) : Type 0 where
   pub tokens : List Token
-  pub all : lexed s.number 0 0 s.bytes ≡ All tokens
+  pub all : tokens_from s.number 0 0 s.bytes ≡ All tokens
 
 pub record NoToken (s : Source) (r : Refusal) : Type 0 where
   pub why : NotAToken
   pub at : ℕ
-  pub nothing : lexed s.number 0 0 s.bytes ≡ Nothing why at
+  pub nothing : tokens_from s.number 0 0 s.bytes ≡ Nothing why at
   pub is : r ≡ refusal 1 (Some s.name) (Some at) (cause_of why)
 
 -- declarations
 pub record HasDecls (s : Source) (decls : List De) : Type 0 where
   pub tokens : List Token
-  pub all : lexed s.number 0 0 s.bytes ≡ All tokens
+  pub all : tokens_from s.number 0 0 s.bytes ≡ All tokens
   pub are : AreDecls tokens decls
 
 abbrev pub IsRead : Source → Type 0
@@ -77,7 +77,7 @@ IsRead s = (decls : List De) × HasDecls s decls
 
 pub record NotADecl (s : Source) (r : Refusal) : Type 0 where
   pub tokens : List Token
-  pub all : lexed s.number 0 0 s.bytes ≡ All tokens
+  pub all : tokens_from s.number 0 0 s.bytes ≡ All tokens
   pub first : Spot
   pub stops : StopsAt tokens first
   pub is : r ≡ refusal 2 (Some s.name) (Some first.at) (codes "NotADecl")

@@ -3,7 +3,7 @@
 ghost use Rattle.std.specs.Prelude.{◌≡◌, ℕ, true, List, ◌≤◌, ◌<◌, ◌^◌, length, IsTrue, IfOk, IfErr, IfSome};
 ghost use Rattle.std.specs.List.{AllByRecursion, list_all};
 ghost use Rattle.vale_outside.specs.Outside.{Rose};
-ghost use Rattle.straight_line.specs.Form.{IsStraight};
+ghost use Rattle.straight_line.specs.inner.Fits.{IsStraight};
 ghost use Rattle.vale_driver.specs.Certificate.{Pair, Proves};
 ghost use Rattle.vale_driver.specs.Ring.{ring_closes};
 ghost use Rattle.vale_driver.specs.Terms.{is_built};

@@ -2,8 +2,8 @@
 
 ghost use Rattle.std.specs.Prelude.{◌≡◌, ◌≤◌, ◌<◌, ◌^◌, ℕ, List, length, map, slice_get, Some, codes, IsTrue, IfOk, IfErr};
 ghost use Rattle.std.specs.List.{AllByRecursion};
-ghost use Rattle.vale_syntax.specs.Programs.{decl_tree};
-ghost use Rattle.straight_line.specs.Form.{IsStraight};
+ghost use Rattle.vale_syntax.specs.inner.CodeTrees.{decl_tree};
+ghost use Rattle.straight_line.specs.inner.Fits.{IsStraight};
 ghost use Rattle.vale_outside.specs.Outside.{Rose};
 ghost use Rattle.vale_driver.specs.Sources.{refusal, FirstOf, IsShort, HasTokens, NoToken};
 ghost use Rattle.vale_driver.specs.Phases.{texts, seen_all, no_token, scan, kept, Opened, Parsed, Parses, Unparsed};

@@ -9,8 +9,8 @@ use Rattle.vale_syntax.specs.declared.token.TokenKind.{TokenKind}
 use Rattle.vale_syntax.specs.declared.token.Front.{Front}
 use Rattle.vale_syntax.specs.declared.mark.Mark.{Mark}
 use Rattle.vale_syntax.proofs.Marks.{some}
-use Rattle.vale_syntax.specs.Tokens.{begins, is_blank, is_in_line, close_len, comment, is_stamp_byte, stamp_len, name_front, named, is_hex_byte, value, below, suffixed, hex_len, number_of, number, marks, mark_front, other, front}
-use Rattle.vale_lexer.specs.Lexes.{Fits}
+use Rattle.vale_syntax.specs.Tokens.{begins, is_blank, is_in_line, close_len, comment, is_stamp_byte, stamp_len, name_front, front_of_name, is_hex_byte, digits_value, number_front, number_by_suffix, hex_len, number_of, number, marks, mark_front, other_front, front}
+use Rattle.vale_lexer.specs.inner.Lexes.{Fits}
 
 -- what begins a text isn't longer
 pub begins_short : (literal bytes : List ℕ) → begins literal bytes ≡ true → length literal ≤ length bytes
@@ -37,11 +37,11 @@ close_short (b ∷ bs) n h = by_test (begins (codes "*/") (b ∷ bs)) refl h (λ
     by_test true e f g = let long = begins_short (codes "*/") (b ∷ bs) e in let same : 2 ≡ n = same_Some _ _ f in omega (arith, long, same)
     by_test false e f g = one_more (close_len bs) f g
 
-below_fits : (limit : ℕ) (k : ℕ → TokenKind) (len total : ℕ) (n : Option ℕ) → 1 ≤ len → len ≤ total → Fits total (below limit k len n)
+below_fits : (limit : ℕ) (k : ℕ → TokenKind) (len total : ℕ) (n : Option ℕ) → 1 ≤ len → len ≤ total → Fits total (number_front limit k len n)
 below_fits limit k len total None low high = tt
 below_fits limit k len total (Some n) low high = choice_fits (nat_lt n limit) total _ _ (λ e. (low, high)) (λ e. tt)
 
-suffixed_fits : (n : Option ℕ) (len total : ℕ) (rest : List ℕ) → 1 ≤ len → len + length rest ≤ total → Fits total (suffixed n len rest)
+suffixed_fits : (n : Option ℕ) (len total : ℕ) (rest : List ℕ) → 1 ≤ len → len + length rest ≤ total → Fits total (number_by_suffix n len rest)
 suffixed_fits n len total [] low high = below_fits _ _ len total n low (omega arith)
 suffixed_fits n len total (b ∷ bs) low high =
     choice_fits (b == 119) total _ _ (λ e. below_fits _ _ (len + 1) total n (omega arith) (omega arith))
@@ -67,7 +67,7 @@ run_some p b bs h = by_test (p b) h
     by_test true e = omega arith
     by_test false e = absurd cc
 
-named_fits : (b : ℕ) (bs : List ℕ) → is_name_byte b ≡ true → Fits (length (b ∷ bs)) (named (b ∷ bs))
+named_fits : (b : ℕ) (bs : List ℕ) → is_name_byte b ≡ true → Fits (length (b ∷ bs)) (front_of_name (b ∷ bs))
 named_fits b bs h =
     let n = prefix_len is_name_byte (b ∷ bs) in
     let some = run_some is_name_byte b bs h in
@@ -93,12 +93,12 @@ number_fits b bs h = by_len (hex_len (b ∷ bs)) refl
         let some = run_some is_digit_byte b bs h in
         let short = prefix_len-le-length is_digit_byte (b ∷ bs) in
         let left = length-drop n (b ∷ bs) in
-        suffixed_fits (value 10 (take n (b ∷ bs))) n (length (b ∷ bs)) (drop n (b ∷ bs)) some (omega (arith, short, left))
+        suffixed_fits (digits_value 10 (take n (b ∷ bs))) n (length (b ∷ bs)) (drop n (b ∷ bs)) some (omega (arith, short, left))
     by_len (suc m) e =
         let short = hex_short (b ∷ bs) m e in
         let left = length-drop 2 (b ∷ bs) in
         let rest = length-drop (suc m) (drop 2 (b ∷ bs)) in
-        suffixed_fits (value 16 (take (suc m) (drop 2 (b ∷ bs)))) (suc m + 2) (length (b ∷ bs)) (drop (suc m) (drop 2 (b ∷ bs))) (omega arith) (omega (arith, short, left, rest))
+        suffixed_fits (digits_value 16 (take (suc m) (drop 2 (b ∷ bs)))) (suc m + 2) (length (b ∷ bs)) (drop (suc m) (drop 2 (b ∷ bs))) (omega arith) (omega (arith, short, left, rest))
 
 found_begins : (bytes : List ℕ) (ms : List (List ℕ × Mark)) (m : List ℕ × Mark) → find (λ m. begins m.0 bytes) ms ≡ Some m → begins m.0 bytes ≡ true
 found_begins bytes [] m h = absurd cc
@@ -144,7 +144,7 @@ line_some b bs h =
     let first : b ≡ 47 = ap (λ (l : List ℕ). get_or l 0 0) same in
     run_some is_in_line b bs (subst (λ x. is_in_line x ≡ true) (sym first) refl)
 
-other_fits : (b : ℕ) (bs : List ℕ) → Fits (length (b ∷ bs)) (other (b ∷ bs))
+other_fits : (b : ℕ) (bs : List ℕ) → Fits (length (b ∷ bs)) (other_front (b ∷ bs))
 other_fits b bs =
     choice_fits (begins (codes "//") (b ∷ bs)) (length (b ∷ bs)) _ _
     (λ e. (line_some b bs e, prefix_len-le-length is_in_line (b ∷ bs)))

@@ -2,7 +2,7 @@
 use Rattle.std.proofs.Common.{◌≡◌, ℕ, zero, suc, ◌+◌, ◌*◌, ◌^◌, ◌≤◌, ◌<◌, Bool, true, false, cond, List, [], ◌∷◌, length, take, drop, get_or, drop-cons, Option, Some, None, refl, sym, ap, ◌∙◌, subst, arith, option_map, codes, nat_lt}
 use native.Mathlib.Numerals.{unary_clauses}
 use Rattle.std.proofs.lemmas.Bool.{le-ltb, lt-ltb, ltb-false}
-use Rattle.vale_syntax.specs.Tokens.{begins, close_len, number_after, digit, wide, value, hex_len, number_of, number, suffixed}
+use Rattle.vale_syntax.specs.Tokens.{begins, close_len, number_after, digit, wide_number, digits_value, hex_len, number_of, number, number_by_suffix}
 
 -- The end of a comment.
 closes : (bytes : List ℕ) → begins (codes "*/") bytes ≡ true → close_len bytes ≡ Some 2
@@ -82,13 +82,13 @@ pub number_step : (radix n i : ℕ) (digits : List ℕ) (d : ℕ) → i < length
 number_step radix n i digits d h = ap (number_after radix n) (sym (drop-cons digits i d h))
 
 -- none below 2^128 from some digit on is none at the end
-pub value_none : (radix n : ℕ) (digits rest : List ℕ) → 1 ≤ radix → number_after radix n rest ≡ number_after radix 0 digits → wide n ≡ None → None ≡ value radix digits
+pub value_none : (radix n : ℕ) (digits rest : List ℕ) → 1 ≤ radix → number_after radix n rest ≡ number_after radix 0 digits → wide_number n ≡ None → None ≡ digits_value radix digits
 value_none radix n digits rest h e f =
     let grows = number_grows radix n rest h in
     let above : 2 ^ 128 ≤ number_after radix 0 digits = omega (arith, e, grows, above_of n f) in
     by_test (nat_lt (number_after radix 0 digits) (2 ^ 128)) (le-ltb _ _ above)
   where
-    above_of : (n : ℕ) → wide n ≡ None → 2 ^ 128 ≤ n
+    above_of : (n : ℕ) → wide_number n ≡ None → 2 ^ 128 ≤ n
     above_of n f = at_test (nat_lt n (2 ^ 128)) refl f
       where
         at_test : (t : Bool) → nat_lt n (2 ^ 128) ≡ t → cond t (Some n) None ≡ None → 2 ^ 128 ≤ n
@@ -102,10 +102,10 @@ value_none radix n digits rest h e f =
 pub number_end : (radix n i : ℕ) (digits : List ℕ) → length digits ≤ i → number_after radix n (drop i digits) ≡ number_after radix 0 digits → n ≡ number_after radix 0 digits
 number_end radix n i digits h e = ap (number_after radix n) (sym (drop_end i digits h)) ∙ e
 
-pub value_some : (radix n : ℕ) (digits : List ℕ) → n ≡ number_after radix 0 digits → n < 2 ^ 128 → Some n ≡ value radix digits
-value_some radix n digits e h = subst (λ k. Some n ≡ wide k) e (ap (λ t. cond t (Some n) None) (sym (lt-ltb _ _ h)))
+pub value_some : (radix n : ℕ) (digits : List ℕ) → n ≡ number_after radix 0 digits → n < 2 ^ 128 → Some n ≡ digits_value radix digits
+value_some radix n digits e h = subst (λ k. Some n ≡ wide_number k) e (ap (λ t. cond t (Some n) None) (sym (lt-ltb _ _ h)))
 
-pub number_hex : (bytes : List ℕ) (n : ℕ) → 0 < n → n ≡ hex_len bytes → suffixed (value 16 (take n (drop 2 bytes))) (n + 2) (drop n (drop 2 bytes)) ≡ number bytes
+pub number_hex : (bytes : List ℕ) (n : ℕ) → 0 < n → n ≡ hex_len bytes → number_by_suffix (digits_value 16 (take n (drop 2 bytes))) (n + 2) (drop n (drop 2 bytes)) ≡ number bytes
 number_hex bytes zero h e = absurd (over h)
   where
     over : 0 < 0 → ⊥

@@ -2,7 +2,7 @@
 
 ghost use Rattle.std.specs.Prelude.{◌≡◌, ◌≤◌, length};
 ghost use Rattle.std.specs.List.{prefix_len};
-ghost use Rattle.vale_lexer.specs.Classes.{in_class};
+ghost use Rattle.vale_lexer.specs.inner.Classes.{in_class};
 
 use x64_syntax::{is_digit, is_name_part};
 

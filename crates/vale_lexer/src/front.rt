@@ -1,8 +1,8 @@
 // What stands at the front of a text.
 
 ghost use Rattle.std.specs.Prelude.{◌≡◌, ◌≤◌, ◌<◌, ◌+◌, ◌^◌, length, map, IfSome, IsTrue};
-ghost use Rattle.vale_syntax.specs.Tokens.{front, begins, is_blank, is_in_line, comment, close_len, stamp_len, named, mark_at, mark_front, other};
-ghost use Rattle.vale_lexer.specs.Lexes.{Fits};
+ghost use Rattle.vale_syntax.specs.Tokens.{front, begins, is_blank, is_in_line, comment, close_len, stamp_len, front_of_name, mark_at, mark_front, other_front};
+ghost use Rattle.vale_lexer.specs.inner.Lexes.{Fits};
 
 use crate::class::{Class, run_len};
 use crate::number::number;
@@ -45,7 +45,7 @@ fn is_blank(byte: u8) -> bool
 
 // A name, with its stamp.
 fn named(bytes: &[u8]) -> Front
-    ensures { result ≡ named bytes.now }
+    ensures { result ≡ front_of_name bytes.now }
 {
     let len = run_len(Class::Name, bytes);
     match stamp_len(bytes.split_at(len).1) {
@@ -69,7 +69,7 @@ fn stamp_len(bytes: &[u8]) -> usize
 }
 
 fn other(bytes: &[u8]) -> Front
-    ensures { result ≡ other bytes.now }
+    ensures { result ≡ other_front bytes.now }
 {
     if begins(bytes, b"//") {
         return Front::Skipped(run_len(Class::InLine, bytes));

@@ -1,8 +1,8 @@
 // The scan.
 
 ghost use Rattle.std.specs.Prelude.{◌≡◌, ◌<◌, ◌+◌, ◌^◌, ◌++◌, ◌∷◌, [], length, OnOk};
-ghost use Rattle.vale_syntax.specs.Tokens.{lexed, token};
-ghost use Rattle.vale_lexer.specs.Lexes.{Lexes, Steps, fault_of};
+ghost use Rattle.vale_syntax.specs.Tokens.{tokens_from, token_at};
+ghost use Rattle.vale_lexer.specs.inner.Lexes.{Lexes, Steps, fault_of};
 
 use crate::front::front;
 use std::alloc::{AllocError, AllocFailed, Global};
@@ -43,7 +43,7 @@ impl<T: Drop> From<AllocFailed<T>> for LexFault {
 /// The tokens of a file's bytes. The file's number stands in their places.
 pub fn tokens(alloc: Global, file: u32, bytes: &[u8]) -> Result<Vec<Token>, LexFault>
     requires { length bytes.now < 2 ^ 32 }
-    ensures { Lexes (lexed file 0 0 bytes.now) result }
+    ensures { Lexes (tokens_from file 0 0 bytes.now) result }
 {
     let mut tokens = Vec::new(alloc);
     let mut rest = bytes;
@@ -78,7 +78,7 @@ fn push_token(
     text: &[u8],
     spot: Spot,
 ) -> Result<(), AllocError>
-    ensures { OnOk result (tokens.new.items ≡ tokens.old.items ++ token spot.file spot.at kind text.now ∷ []) }
+    ensures { OnOk result (tokens.new.items ≡ tokens.old.items ++ token_at spot.file spot.at kind text.now ∷ []) }
 {
     let text = Text::from_slice(alloc, text)?;
     tokens.push(Token { kind, text, spot })?;

@@ -5,24 +5,25 @@ use Rattle.vale_syntax.specs.declared.statement.Stmt.{Stmt}
 use Rattle.vale_syntax.specs.declared.statement.LemmaStmt.{LemmaStmt}
 use Rattle.vale_syntax.specs.declared.mark.Mark.TheVariants as mark
 use Rattle.vale_syntax.specs.Peek.{peek}
-use Rattle.vale_syntax.specs.Programs.{Sts, more_sts, stmt_tree, sts, LSts, more_lsts, lstmt_tree, lsts}
+use Rattle.vale_syntax.specs.Programs.{Sts, more_sts, LSts, more_lsts}
+use Rattle.vale_syntax.specs.inner.CodeTrees.{stmt_tree, sts, lstmt_tree, lsts}
 use Rattle.vale_syntax.specs.Statements.{sts_last, lsts_last}
 use Rattle.vale_syntax.specs.inner.Marks.{is_mark}
-use Rattle.vale_parser.specs.Parts.{bind}
-use Rattle.vale_parser.specs.Productions.{Stated, bodied, Statements, statement_by, statement, body, LStated, lbodied, LStatements, lstatement_by, lstatement, lbody}
+use Rattle.vale_parser.specs.inner.Parts.{bind}
+use Rattle.vale_parser.specs.inner.Productions.{StatementParse, body_parse, Statements, statement_by, statement, body, LStatementParse, lbody_parse, LStatements, lstatement_by, lstatement, lbody}
 
 body_turn : (sub : Statements) (n m : ℕ) (xs : Sts) (d : ℕ) (ts : List Token) (b : Bool) → n ≡ suc m → b ≡ is_mark mark.BraceClose (peek ts)
-    → body sub n xs d ts ≡ cond b (Some (bodied xs d (drop 1 ts))) (bind (sub ts) (λ s. body sub m (sts_last xs s.tree) (max d s.height) s.rest))
+    → body sub n xs d ts ≡ cond b (Some (body_parse xs d (drop 1 ts))) (bind (sub ts) (λ s. body sub m (sts_last xs s.tree) (max d s.height) s.rest))
 unfolding body
 body_turn sub n m xs d ts b e p = ap (λ k. body sub k xs d ts) e ∙ rw p refl
 
-pub body_stop : (sub : Statements) (n m : ℕ) (xs : Sts) (d : ℕ) (ts : List Token) (b : Bool) → n ≡ suc m → b ≡ is_mark mark.BraceClose (peek ts) → b ≡ true → body sub n xs d ts ≡ Some (bodied xs d (drop 1 ts))
+pub body_stop : (sub : Statements) (n m : ℕ) (xs : Sts) (d : ℕ) (ts : List Token) (b : Bool) → n ≡ suc m → b ≡ is_mark mark.BraceClose (peek ts) → b ≡ true → body sub n xs d ts ≡ Some (body_parse xs d (drop 1 ts))
 body_stop sub n m xs d ts b e p q = body_turn sub n m xs d ts b e p ∙ rw q refl
 
 pub body_fail : (sub : Statements) (n m : ℕ) (xs : Sts) (d : ℕ) (ts : List Token) (b : Bool) → n ≡ suc m → b ≡ is_mark mark.BraceClose (peek ts) → b ≡ false → sub ts ≡ None → body sub n xs d ts ≡ None
 body_fail sub n m xs d ts b e p q h = body_turn sub n m xs d ts b e p ∙ rw (q, h) refl
 
-pub body_go_on : (sub : Statements) (n m : ℕ) (xs : Sts) (d : ℕ) (ts : List Token) (b : Bool) (s : Stated) → n ≡ suc m → b ≡ is_mark mark.BraceClose (peek ts) → b ≡ false → sub ts ≡ Some s
+pub body_go_on : (sub : Statements) (n m : ℕ) (xs : Sts) (d : ℕ) (ts : List Token) (b : Bool) (s : StatementParse) → n ≡ suc m → b ≡ is_mark mark.BraceClose (peek ts) → b ≡ false → sub ts ≡ Some s
     → body sub n xs d ts ≡ body sub m (sts_last xs s.tree) (max d s.height) s.rest
 body_go_on sub n m xs d ts b s e p q h = body_turn sub n m xs d ts b e p ∙ rw (q, h) refl
 
@@ -44,17 +45,17 @@ statement_is (suc n) ts h = ap (λ k. statement_by (statement k) (peek ts) ts) (
 
 -- the same for lemmas
 lbody_turn : (sub : LStatements) (n m : ℕ) (xs : LSts) (d : ℕ) (ts : List Token) (b : Bool) → n ≡ suc m → b ≡ is_mark mark.BraceClose (peek ts)
-    → lbody sub n xs d ts ≡ cond b (Some (lbodied xs d (drop 1 ts))) (bind (sub ts) (λ s. lbody sub m (lsts_last xs s.tree) (max d s.height) s.rest))
+    → lbody sub n xs d ts ≡ cond b (Some (lbody_parse xs d (drop 1 ts))) (bind (sub ts) (λ s. lbody sub m (lsts_last xs s.tree) (max d s.height) s.rest))
 unfolding lbody
 lbody_turn sub n m xs d ts b e p = ap (λ k. lbody sub k xs d ts) e ∙ rw p refl
 
-pub lbody_stop : (sub : LStatements) (n m : ℕ) (xs : LSts) (d : ℕ) (ts : List Token) (b : Bool) → n ≡ suc m → b ≡ is_mark mark.BraceClose (peek ts) → b ≡ true → lbody sub n xs d ts ≡ Some (lbodied xs d (drop 1 ts))
+pub lbody_stop : (sub : LStatements) (n m : ℕ) (xs : LSts) (d : ℕ) (ts : List Token) (b : Bool) → n ≡ suc m → b ≡ is_mark mark.BraceClose (peek ts) → b ≡ true → lbody sub n xs d ts ≡ Some (lbody_parse xs d (drop 1 ts))
 lbody_stop sub n m xs d ts b e p q = lbody_turn sub n m xs d ts b e p ∙ rw q refl
 
 pub lbody_fail : (sub : LStatements) (n m : ℕ) (xs : LSts) (d : ℕ) (ts : List Token) (b : Bool) → n ≡ suc m → b ≡ is_mark mark.BraceClose (peek ts) → b ≡ false → sub ts ≡ None → lbody sub n xs d ts ≡ None
 lbody_fail sub n m xs d ts b e p q h = lbody_turn sub n m xs d ts b e p ∙ rw (q, h) refl
 
-pub lbody_go_on : (sub : LStatements) (n m : ℕ) (xs : LSts) (d : ℕ) (ts : List Token) (b : Bool) (s : LStated) → n ≡ suc m → b ≡ is_mark mark.BraceClose (peek ts) → b ≡ false → sub ts ≡ Some s
+pub lbody_go_on : (sub : LStatements) (n m : ℕ) (xs : LSts) (d : ℕ) (ts : List Token) (b : Bool) (s : LStatementParse) → n ≡ suc m → b ≡ is_mark mark.BraceClose (peek ts) → b ≡ false → sub ts ≡ Some s
     → lbody sub n xs d ts ≡ lbody sub m (lsts_last xs s.tree) (max d s.height) s.rest
 lbody_go_on sub n m xs d ts b s e p q h = lbody_turn sub n m xs d ts b e p ∙ rw (q, h) refl
 

@@ -22,16 +22,16 @@ use Rattle.vale_syntax.specs.Operators.{any}
 use Rattle.vale_syntax.specs.Peek.{peek, spot_of}
 use Rattle.vale_syntax.specs.Trees.{Ex}
 use Rattle.vale_syntax.specs.Expressions.{Spells, name_of, depth_limit}
-use Rattle.vale_syntax.specs.Parse.{◌>>=◌ as ◌>=>◌}
+use Rattle.vale_syntax.specs.Options.{◌>>=◌ as ◌>=>◌}
 use Rattle.vale_syntax.specs.Statements.{Expression, sort_at}
-use Rattle.vale_syntax.specs.Declarations.{IsName, name as is_name_, IsBind, bind as is_bind, secret, open_, IsPlace, place as is_place, IsParam, operand, out, inline_, ghost_, block as is_block, kind_at, direction_by}
+use Rattle.vale_syntax.specs.Declarations.{IsName, name as is_name_, IsBind, bind as is_bind, secret, open_, IsPlace, place as is_place, IsParam, operand_param, out_param, inline_param, ghost_param, block_param as is_block, kind_at, direction_by}
 use Rattle.vale_syntax.proofs.Complete.{loose, found}
 use Rattle.vale_syntax.proofs.Grows.{spells_short}
-use Rattle.expr_parser.specs.Reads.{expression as expression_front}
-use Rattle.vale_parser.specs.Productions.{plain_only, expression}
+use Rattle.expr_parser.specs.inner.Reads.{expression as expression_front}
+use Rattle.vale_parser.specs.inner.Productions.{plain_only, expression}
 use Rattle.vale_syntax.specs.inner.Marks.{mark_eq}
-use Rattle.vale_parser.specs.Parts.{bind as and_then, expect, before}
-use Rattle.vale_parser.specs.Productions.{asked, is_name, is_secret, name, sort_behind, kind_behind, bind, place_at, place, operand_at, out_at, inline_by, inline_at, ghost_at, block_at, guarded_by, guarded, param_by, parameter}
+use Rattle.vale_parser.specs.inner.Parts.{bind as and_then, expect, before}
+use Rattle.vale_parser.specs.inner.Productions.{only_if, is_name, is_secret, name, sort_behind, kind_behind, bind, place_at, place, operand_at, out_at, inline_by, inline_at, ghost_at, block_at, secret_param_by, secret_param, param_by, parameter}
 use Rattle.vale_parser.proofs.Parts.{bound, expect_found}
 
 -- dropping twice
@@ -63,7 +63,7 @@ unfolding expression_front Ends
 expression_front_found {ts = ts} s shallow h = ap (λ o. and_then (o >=> λ g. Some (g.tree, g.rest)) (plain_only ts)) (found s depth_limit shallow h)
 
 pub expression_found : (ts : List Token) (x : Ex) (rest : List Token) → Expression ts x rest → Ends (peek rest) → expression ts ≡ Some (x, rest)
-expression_found ts x rest e h = expression_front_found e.spelled e.shallow h ∙ ap (λ b. asked b (Some (x, rest))) e.plain
+expression_found ts x rest e h = expression_front_found e.spelled e.shallow h ∙ ap (λ b. only_if b (Some (x, rest))) e.plain
 
 pub expression_short : (ts : List Token) (x : Ex) (rest : List Token) → Expression ts x rest → length rest ≤ length ts
 expression_short ts x rest e = spells_short e.spelled
@@ -83,7 +83,7 @@ unfolding Ends loose
 round_found ts x rest e p = before_found mark.RoundClose ts x rest refl (omega arith) e p
 
 pub name_found : (ts : List Token) → peek ts ≡ see.Name → name ts ≡ Some (name_of ts, drop 1 ts)
-name_found ts p = ap (λ f. asked (is_name f) (Some (name_of ts, drop 1 ts))) p
+name_found ts p = ap (λ f. only_if (is_name f) (Some (name_of ts, drop 1 ts))) p
 
 pub sort_behind_found : (ts : List Token) (s : SortName) → peek ts ≡ see.Mark mark.Colon → sort_at (drop 1 ts) ≡ Some s → sort_behind ts ≡ Some (s, drop 2 ts)
 sort_behind_found ts s p q =
@@ -142,7 +142,7 @@ ghost_found s t ts p q r =
 
 -- behind `secret` or nothing
 guarded_operand : (s : Spot) (b : Bool) (d : Direction) (k : KindName) (f : Lookahead) (ts : List Token) → direction_by f ≡ Some d → peek ts ≡ see.Name → peek (drop 1 ts) ≡ see.Mark mark.Colon → kind_at (drop 2 ts) ≡ Some k
-    → guarded_by s b f ts ≡ Some (param.Operand s b d (name_of ts) k, drop 3 ts)
+    → secret_param_by s b f ts ≡ Some (param.Operand s b d (name_of ts) k, drop 3 ts)
 guarded_operand s b d k (see.Keyword word.In) ts e p q r = subst (λ d. operand_at s b direction.In ts ≡ Some (param.Operand s b d (name_of ts) k, drop 3 ts)) (same_Some direction.In d e) (operand_found s b direction.In k ts p q r)
 guarded_operand s b d k (see.Keyword word.InOut) ts e p q r = subst (λ d. operand_at s b direction.InOut ts ≡ Some (param.Operand s b d (name_of ts) k, drop 3 ts)) (same_Some direction.InOut d e) (operand_found s b direction.InOut k ts p q r)
 guarded_operand s b d k _ ts e p q r = absurd cc
@@ -151,33 +151,33 @@ block_found : (s : Spot) (b : Bool) (ts : List Token) → peek ts ≡ see.Name �
 block_found s b ts p = bound (name ts) (name_of ts, drop 1 ts) (λ n. Some (param.Block s b n.0, n.1)) _ (name_found ts p) refl
 
 -- a parameter that isn't secret begins with its own word
-open_param : (f : Lookahead) (d : Direction) (ts : List Token) → direction_by f ≡ Some d → param_by f ts ≡ guarded (spot_of ts) false ts
+open_param : (f : Lookahead) (d : Direction) (ts : List Token) → direction_by f ≡ Some d → param_by f ts ≡ secret_param (spot_of ts) false ts
 open_param (see.Keyword word.In) d ts e = refl
 open_param (see.Keyword word.InOut) d ts e = refl
 open_param _ d ts e = absurd cc
 
 pub parameter_found : (ts : List Token) (p : Param) (rest : List Token) → IsParam ts p rest → parameter ts ≡ Some (p, rest)
 unfolding parameter
-parameter_found ts p rest (operand {d = d} {k = k} (secret q) e a b c) =
+parameter_found ts p rest (operand_param {d = d} {k = k} (secret q) e a b c) =
     ap (λ f. param_by f ts) q
     ∙ guarded_operand (spot_of ts) true d k (peek (drop 1 ts)) (drop 1 (drop 1 ts)) e a (ap peek (dd 1 1 (drop 1 ts)) ∙ b) (ap kind_at (dd 1 2 (drop 1 ts)) ∙ c)
     ∙ ap (λ l. Some (param.Operand (spot_of ts) true d (name_of (drop 1 (drop 1 ts))) k, l)) (dd 1 3 (drop 1 ts))
-parameter_found ts p rest (operand {d = d} {k = k} open_ e a b c) =
+parameter_found ts p rest (operand_param {d = d} {k = k} open_ e a b c) =
     open_param (peek ts) d ts e
     ∙ guarded_operand (spot_of ts) false d k (peek ts) (drop 1 ts) e a (ap peek (dd 1 1 ts) ∙ b) (ap kind_at (dd 1 2 ts) ∙ c)
     ∙ ap (λ l. Some (param.Operand (spot_of ts) false d (name_of (drop 1 ts)) k, l)) (dd 1 3 ts)
-parameter_found ts p rest (out {k = k} q a b c) =
+parameter_found ts p rest (out_param {k = k} q a b c) =
     ap (λ f. param_by f ts) q ∙ out_found (spot_of ts) k (drop 1 ts) a (ap peek (dd 1 1 ts) ∙ b) (ap kind_at (dd 1 2 ts) ∙ c)
     ∙ ap (λ l. Some (param.Out (spot_of ts) (name_of (drop 1 ts)) k, l)) (dd 1 3 ts)
-parameter_found ts p rest (inline_ {s = s} q a b c) =
+parameter_found ts p rest (inline_param {s = s} q a b c) =
     ap (λ f. param_by f ts) q ∙ inline_found (spot_of ts) s (drop 1 ts) a (ap peek (dd 1 1 ts) ∙ b) (ap sort_at (dd 1 2 ts) ∙ c)
     ∙ ap (λ l. Some (param.Inline (spot_of ts) (name_of (drop 1 ts)), l)) (dd 1 3 ts)
-parameter_found ts p rest (ghost_ {s = s} q a b c) =
+parameter_found ts p rest (ghost_param {s = s} q a b c) =
     ap (λ f. param_by f ts) q ∙ ghost_found (spot_of ts) s (drop 1 ts) a (ap peek (dd 1 1 ts) ∙ b) (ap sort_at (dd 1 2 ts) ∙ c)
     ∙ ap (λ l. Some (param.Ghost (spot_of ts) (name_of (drop 1 ts)) s, l)) (dd 1 3 ts)
 parameter_found ts p rest (is_block (secret q) e a) =
-    ap (λ f. param_by f ts) q ∙ ap (λ f. guarded_by (spot_of ts) true f (drop 1 (drop 1 ts))) e ∙ block_found (spot_of ts) true (drop 1 (drop 1 ts)) a
+    ap (λ f. param_by f ts) q ∙ ap (λ f. secret_param_by (spot_of ts) true f (drop 1 (drop 1 ts))) e ∙ block_found (spot_of ts) true (drop 1 (drop 1 ts)) a
     ∙ ap (λ l. Some (param.Block (spot_of ts) true (name_of (drop 1 (drop 1 ts))), l)) (dd 1 1 (drop 1 ts))
 parameter_found ts p rest (is_block open_ e a) =
-    ap (λ f. param_by f ts) e ∙ ap (λ f. guarded_by (spot_of ts) false f (drop 1 ts)) e ∙ block_found (spot_of ts) false (drop 1 ts) a
+    ap (λ f. param_by f ts) e ∙ ap (λ f. secret_param_by (spot_of ts) false f (drop 1 ts)) e ∙ block_found (spot_of ts) false (drop 1 ts) a
     ∙ ap (λ l. Some (param.Block (spot_of ts) false (name_of (drop 1 ts)), l)) (dd 1 1 ts)

@@ -11,15 +11,15 @@ use Rattle.vale_syntax.specs.declared.spot.Spot.{Spot}
 use Rattle.vale_syntax.specs.Operators.{any}
 use Rattle.vale_syntax.specs.Peek.{peek}
 use Rattle.vale_syntax.specs.Trees.{Ex}
-use Rattle.vale_syntax.specs.Expressions.{name_of, leaf_by, leaf, Spells, not_, negative, minus, postfix, operations, Chain, chain_end, operation, Indexed, index_end, index, token, call, brackets}
+use Rattle.vale_syntax.specs.Expressions.{name_of, leaf_by, leaf, Spells, not_, negative, minus, postfix, operations, Chain, chain_end, operation, Indices, index_end, index, token, call, brackets}
 use Rattle.vale_syntax.specs.Programs.{Ar, Memory, Value}
 use Rattle.vale_syntax.specs.Statements.{is_plain, tokens_before, Expression, Argument, memory, value}
 use Rattle.vale_syntax.proofs.Complete.{loose}
 use Rattle.vale_syntax.proofs.Grows.{chain_grows, indexed_grows}
-use Rattle.vale_parser.specs.Productions.{expression}
+use Rattle.vale_parser.specs.inner.Productions.{expression}
 use Rattle.vale_syntax.specs.inner.Marks.{is_mark}
-use Rattle.vale_parser.specs.Parts.{bind as and_then, expect, before, separated}
-use Rattle.vale_parser.specs.Productions.{asked, is_name, memory_at, value_at, argument_by, argument}
+use Rattle.vale_parser.specs.inner.Parts.{bind as and_then, expect, before, comma_list}
+use Rattle.vale_parser.specs.inner.Productions.{only_if, is_name, memory_at, value_at, argument_by, argument}
 use Rattle.vale_parser.proofs.Sound.{is_name_is}
 use Rattle.vale_syntax.proofs.MarkTests.{peek_is}
 use Rattle.vale_parser.proofs.Parts.{bound, expect_found, separated_found, separated_short}
@@ -52,7 +52,7 @@ record IndexAt (ts : List Token) (d : ℕ) : Type 0 where
   closes : peek mid ≡ see.Mark mark.SquareClose
   no_at : is_mark mark.At (peek (drop 1 mid)) ≡ false
 
-next_no_at : {s : Spot} {d : ℕ} {x : Ex} {ts : List Token} {e : ℕ} {y : Ex} {rest : List Token} → Indexed s d x ts e y rest → is_mark mark.At (peek rest) ≡ false → is_mark mark.At (peek ts) ≡ false
+next_no_at : {s : Spot} {d : ℕ} {x : Ex} {ts : List Token} {e : ℕ} {y : Ex} {rest : List Token} → Indices s d x ts e y rest → is_mark mark.At (peek rest) ≡ false → is_mark mark.At (peek ts) ≡ false
 next_no_at index_end h = h
 next_no_at (index p k q t) h = ap (is_mark mark.At) p
 
@@ -108,17 +108,17 @@ argument_found ts a rest (memory {mid = mid} {rest = r} {i = i} {a = xs} p q h s
     ∙ ap (λ o. argument_by o ts) (expression_found (drop 2 ts) i mid h (subst (λ f. suc any < loose f) (sym s) (omega arith)))
     ∙ ap (λ b. cond (b && is_mark mark.At (peek (drop 1 mid))) (memory_at (name_of ts) i (drop 2 mid)) (value_at ts)) (ap (is_mark mark.SquareClose) s)
     ∙ ap (λ b. cond b (memory_at (name_of ts) i (drop 2 mid)) (value_at ts)) (ap (is_mark mark.At) t)
-    ∙ bound (expect mark.RoundOpen (drop 2 mid)) (drop 1 (drop 2 mid)) (λ l. and_then (before mark.RoundClose (separated expression l)) (λ a. Some (Memory (name_of ts) i a.0, a.1))) _ (expect_found mark.RoundOpen (drop 2 mid) refl u)
-    (ap (λ l. and_then (before mark.RoundClose (separated expression l)) (λ a. Some (Memory (name_of ts) i a.0, a.1))) (dd 2 1 mid)
-    ∙ bound (before mark.RoundClose (separated expression (drop 3 mid))) (xs, drop 1 r) (λ a. Some (Memory (name_of ts) i a.0, a.1)) _
-    (bound (separated expression (drop 3 mid)) (xs, r) (λ p. and_then (expect mark.RoundClose p.1) (λ l. Some (p.0, l))) _
+    ∙ bound (expect mark.RoundOpen (drop 2 mid)) (drop 1 (drop 2 mid)) (λ l. and_then (before mark.RoundClose (comma_list expression l)) (λ a. Some (Memory (name_of ts) i a.0, a.1))) _ (expect_found mark.RoundOpen (drop 2 mid) refl u)
+    (ap (λ l. and_then (before mark.RoundClose (comma_list expression l)) (λ a. Some (Memory (name_of ts) i a.0, a.1))) (dd 2 1 mid)
+    ∙ bound (before mark.RoundClose (comma_list expression (drop 3 mid))) (xs, drop 1 r) (λ a. Some (Memory (name_of ts) i a.0, a.1)) _
+    (bound (comma_list expression (drop 3 mid)) (xs, r) (λ p. and_then (expect mark.RoundClose p.1) (λ l. Some (p.0, l))) _
     (separated_found Expression expression Ends expression_found expression_short (omega arith) (drop 3 mid) xs r v (ap (is_mark mark.Comma) w) (subst (λ f. suc any < loose f) (sym w) (omega arith)))
     (bound (expect mark.RoundClose r) (drop 1 r) (λ l. Some (xs, l)) _ (expect_found mark.RoundClose r refl w) refl))
     refl)
 argument_found ts a rest (value {x = x} e) f = by_test (is_name (peek ts) && is_mark mark.SquareOpen (peek (drop 1 ts))) refl
   where
     -- whether the index has stamped names or not, no memory operand follows
-    by_plain : {d : ℕ} (i : IndexAt ts d) (b : Bool) → argument_by (asked b (Some (i.tree, i.mid))) ts ≡ Some (Value x, rest)
+    by_plain : {d : ℕ} (i : IndexAt ts d) (b : Bool) → argument_by (only_if b (Some (i.tree, i.mid))) ts ≡ Some (Value x, rest)
     by_plain i false = value_found ts x rest e f.0
     by_plain i true =
         ap (λ b. cond (b && is_mark mark.At (peek (drop 1 i.mid))) (memory_at (name_of ts) i.tree (drop 2 i.mid)) (value_at ts)) (ap (is_mark mark.SquareClose) i.closes)

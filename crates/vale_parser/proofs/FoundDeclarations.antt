@@ -14,14 +14,14 @@ use Rattle.vale_syntax.specs.declared.declaration.ReadPlace.{ReadPlace}
 use Rattle.vale_syntax.specs.Peek.{peek, spot_of}
 use Rattle.vale_syntax.specs.Trees.{Ex}
 use Rattle.vale_syntax.specs.Expressions.{name_of}
-use Rattle.vale_syntax.specs.Lists.{Closed, Separated, Many}
+use Rattle.vale_syntax.specs.Lists.{ClosedList, CommaList, Many}
 use Rattle.vale_syntax.specs.Programs.{Sts, LSts, Cl, Reads, Modifies, Requires, Ensures, Stack, Abi, LCl, LRequires, LEnsures, LDecreases, De, Procedure, Lemma, Function, Export}
 use Rattle.vale_syntax.specs.Statements.{Expression, sort_at, Block, block as st_block, LBlock, lblock as st_lblock, statement_limit}
-use Rattle.vale_syntax.specs.Declarations.{IsName, name as is_name_, IsBind, bind as is_bind, IsSecret, secret, open_, IsPlace, place as is_place, IsParam, operand, out, inline_, ghost_, block as is_block, direction_by, abi_at, IsClause, reads, modifies, requires_, ensures_, stack, abi_, IsLClause, lrequires, lensures, ldecreases, Head, Declaration, procedure_ as is_procedure, lemma_ as is_lemma, function_ as is_function, recursive, export_ as is_export}
-use Rattle.vale_parser.specs.Productions.{expression}
+use Rattle.vale_syntax.specs.Declarations.{IsName, name as is_name_, IsBind, bind as is_bind, IsSecret, secret, open_, IsPlace, place as is_place, IsParam, operand_param, out_param, inline_param, ghost_param, block_param as is_block, direction_by, abi_at, IsClause, reads, modifies, requires_, ensures_, stack, abi_, IsLClause, lrequires, lensures, ldecreases, Head, Declaration, procedure_ as is_procedure, lemma_ as is_lemma, function_ as is_function, recursive, export_ as is_export}
+use Rattle.vale_parser.specs.inner.Productions.{expression}
 use Rattle.vale_syntax.specs.inner.Marks.{is_mark}
-use Rattle.vale_parser.specs.Parts.{bind as and_then, expect, before, separated, closed, many}
-use Rattle.vale_parser.specs.Productions.{asked, is_zero, is_step, name, sort_behind, bind, place, parameter, expression_end, clause_by, clause, begins_clause, lclause_by, lclause, begins_lclause, head, block, statement, lblock, lstatement, bodied, lbodied, Header, header, result_by, result_at, declaration_by, declaration}
+use Rattle.vale_parser.specs.inner.Parts.{bind as and_then, expect, before, comma_list, closed_list, many}
+use Rattle.vale_parser.specs.inner.Productions.{only_if, is_zero, is_step, name, sort_behind, bind, place, parameter, expression_end, clause_by, clause, begins_clause, lclause_by, lclause, begins_lclause, head, block, statement, lblock, lstatement, body_parse, lbody_parse, Header, header, result_by, result_at, declaration_by, declaration}
 use Rattle.vale_parser.proofs.Parts.{bound, word_left, separated_found, separated_short, closed_found, closed_short, many_found, many_short}
 use Rattle.vale_parser.proofs.Found.{dd, Ends, expression_found, expression_short, semicolon_found, is_name_found, sort_behind_found, bind_found, place_found, parameter_found}
 use Rattle.vale_parser.proofs.FoundStatements.{name_at, expect_at, before_of, block_of, block_short}
@@ -48,10 +48,10 @@ bind_starts : (ts : List Token) (b : Bind) (rest : List Token) → IsBind ts b r
 bind_starts ts b rest (is_bind p q r) = ap (is_mark mark.RoundClose) p
 
 parameter_short : (ts : List Token) (p : Param) (rest : List Token) → IsParam ts p rest → length rest ≤ length ts
-parameter_short ts p rest (operand {mid = mid} {b = b} s d q c k) = let a = secret_short ts b mid s in let e = length-drop 4 mid in omega (arith, a, e)
-parameter_short ts p rest (out q a b c) = let d = length-drop 4 ts in omega (arith, d)
-parameter_short ts p rest (inline_ q a b c) = let d = length-drop 4 ts in omega (arith, d)
-parameter_short ts p rest (ghost_ q a b c) = let d = length-drop 4 ts in omega (arith, d)
+parameter_short ts p rest (operand_param {mid = mid} {b = b} s d q c k) = let a = secret_short ts b mid s in let e = length-drop 4 mid in omega (arith, a, e)
+parameter_short ts p rest (out_param q a b c) = let d = length-drop 4 ts in omega (arith, d)
+parameter_short ts p rest (inline_param q a b c) = let d = length-drop 4 ts in omega (arith, d)
+parameter_short ts p rest (ghost_param q a b c) = let d = length-drop 4 ts in omega (arith, d)
 parameter_short ts p rest (is_block {mid = mid} {b = b} s q c) = let a = secret_short ts b mid s in let e = length-drop 2 mid in omega (arith, a, e)
 
 direction_starts : (f : Lookahead) (d : _) → direction_by f ≡ Some d → is_mark mark.RoundClose f ≡ false
@@ -59,35 +59,35 @@ direction_starts (see.Mark m) d e = absurd cc
 direction_starts _ d e = refl
 
 parameter_starts : (ts : List Token) (p : Param) (rest : List Token) → IsParam ts p rest → is_mark mark.RoundClose (peek ts) ≡ false
-parameter_starts ts p rest (operand (secret q) d a b c) = ap (is_mark mark.RoundClose) q
-parameter_starts ts p rest (operand {d = d} open_ e a b c) = direction_starts (peek ts) d e
-parameter_starts ts p rest (out q a b c) = ap (is_mark mark.RoundClose) q
-parameter_starts ts p rest (inline_ q a b c) = ap (is_mark mark.RoundClose) q
-parameter_starts ts p rest (ghost_ q a b c) = ap (is_mark mark.RoundClose) q
+parameter_starts ts p rest (operand_param (secret q) d a b c) = ap (is_mark mark.RoundClose) q
+parameter_starts ts p rest (operand_param {d = d} open_ e a b c) = direction_starts (peek ts) d e
+parameter_starts ts p rest (out_param q a b c) = ap (is_mark mark.RoundClose) q
+parameter_starts ts p rest (inline_param q a b c) = ap (is_mark mark.RoundClose) q
+parameter_starts ts p rest (ghost_param q a b c) = ap (is_mark mark.RoundClose) q
 parameter_starts ts p rest (is_block (secret q) e a) = ap (is_mark mark.RoundClose) q
 parameter_starts ts p rest (is_block open_ e a) = ap (is_mark mark.RoundClose) e
 
-binds_found : (ts : List Token) (xs : List Bind) (rest : List Token) → Closed IsBind ts xs rest → closed bind ts ≡ Some (xs, rest)
+binds_found : (ts : List Token) (xs : List Bind) (rest : List Token) → ClosedList IsBind ts xs rest → closed_list bind ts ≡ Some (xs, rest)
 unfolding Any
 binds_found = closed_found IsBind bind Any (λ ts x rest h f. bind_found ts x rest h) bind_short tt tt bind_starts
 
-parameters_found : (ts : List Token) (xs : List Param) (rest : List Token) → Closed IsParam ts xs rest → closed parameter ts ≡ Some (xs, rest)
+parameters_found : (ts : List Token) (xs : List Param) (rest : List Token) → ClosedList IsParam ts xs rest → closed_list parameter ts ≡ Some (xs, rest)
 unfolding Any
 parameters_found = closed_found IsParam parameter Any (λ ts x rest h f. parameter_found ts x rest h) parameter_short tt tt parameter_starts
 
-places_found : (ts : List Token) (xs : List ReadPlace) (rest : List Token) → Separated IsPlace ts xs rest → peek rest ≡ see.Mark mark.Semicolon → separated place ts ≡ Some (xs, rest)
+places_found : (ts : List Token) (xs : List ReadPlace) (rest : List Token) → CommaList IsPlace ts xs rest → peek rest ≡ see.Mark mark.Semicolon → comma_list place ts ≡ Some (xs, rest)
 unfolding Any
 places_found ts xs rest h p = separated_found IsPlace place Any (λ ts x rest h f. place_found ts x rest h) place_short tt ts xs rest h (ap (is_mark mark.Comma) p) tt
 
-names_found : (ts : List Token) (xs : List Name) (rest : List Token) → Separated IsName ts xs rest → peek rest ≡ see.Mark mark.Semicolon → separated name ts ≡ Some (xs, rest)
+names_found : (ts : List Token) (xs : List Name) (rest : List Token) → CommaList IsName ts xs rest → peek rest ≡ see.Mark mark.Semicolon → comma_list name ts ≡ Some (xs, rest)
 unfolding Any
 names_found ts xs rest h p = separated_found IsName name Any (λ ts x rest h f. is_name_found ts x rest h) name_short tt ts xs rest h (ap (is_mark mark.Comma) p) tt
 
-places_short : (ts : List Token) (xs : List ReadPlace) (rest : List Token) → Separated IsPlace ts xs rest → length rest ≤ length ts
+places_short : (ts : List Token) (xs : List ReadPlace) (rest : List Token) → CommaList IsPlace ts xs rest → length rest ≤ length ts
 unfolding Any
 places_short = separated_short IsPlace place Any (λ ts x rest h f. place_found ts x rest h) place_short
 
-names_short : (ts : List Token) (xs : List Name) (rest : List Token) → Separated IsName ts xs rest → length rest ≤ length ts
+names_short : (ts : List Token) (xs : List Name) (rest : List Token) → CommaList IsName ts xs rest → length rest ≤ length ts
 unfolding Any
 names_short = separated_short IsName name Any (λ ts x rest h f. is_name_found ts x rest h) name_short
 
@@ -95,9 +95,9 @@ names_short = separated_short IsName name Any (λ ts x rest h f. is_name_found t
 clause_found : (ts : List Token) (c : Cl) (rest : List Token) → IsClause ts c rest → clause ts ≡ Some (c, rest)
 unfolding clause
 clause_found ts c rest (reads {mid = mid} {ps = ps} p h s) =
-    ap (λ f. clause_by f ts) p ∙ bound (before mark.Semicolon (separated place (drop 1 ts))) (ps, drop 1 mid) (λ p. Some (Reads (spot_of ts) p.0, p.1)) _ (before_of mark.Semicolon (separated place (drop 1 ts)) ps mid (places_found (drop 1 ts) ps mid h s) refl s) refl
+    ap (λ f. clause_by f ts) p ∙ bound (before mark.Semicolon (comma_list place (drop 1 ts))) (ps, drop 1 mid) (λ p. Some (Reads (spot_of ts) p.0, p.1)) _ (before_of mark.Semicolon (comma_list place (drop 1 ts)) ps mid (places_found (drop 1 ts) ps mid h s) refl s) refl
 clause_found ts c rest (modifies {mid = mid} {ns = ns} p h s) =
-    ap (λ f. clause_by f ts) p ∙ bound (before mark.Semicolon (separated name (drop 1 ts))) (ns, drop 1 mid) (λ p. Some (Modifies (spot_of ts) p.0, p.1)) _ (before_of mark.Semicolon (separated name (drop 1 ts)) ns mid (names_found (drop 1 ts) ns mid h s) refl s) refl
+    ap (λ f. clause_by f ts) p ∙ bound (before mark.Semicolon (comma_list name (drop 1 ts))) (ns, drop 1 mid) (λ p. Some (Modifies (spot_of ts) p.0, p.1)) _ (before_of mark.Semicolon (comma_list name (drop 1 ts)) ns mid (names_found (drop 1 ts) ns mid h s) refl s) refl
 clause_found ts c rest (requires_ {mid = mid} {x = x} p e s) = ap (λ f. clause_by f ts) p ∙ bound (expression_end ts) (x, drop 1 mid) (λ x. Some (Requires (spot_of ts) x.0, x.1)) _ (semicolon_found (drop 1 ts) x mid e s) refl
 clause_found ts c rest (ensures_ {mid = mid} {x = x} p e s) = ap (λ f. clause_by f ts) p ∙ bound (expression_end ts) (x, drop 1 mid) (λ x. Some (Ensures (spot_of ts) x.0, x.1)) _ (semicolon_found (drop 1 ts) x mid e s) refl
 clause_found ts c rest (stack {mid = mid} {x = x} p e s) = ap (λ f. clause_by f ts) p ∙ bound (expression_end ts) (x, drop 1 mid) (λ x. Some (Stack (spot_of ts) x.0, x.1)) _ (semicolon_found (drop 1 ts) x mid e s) refl
@@ -162,48 +162,48 @@ plain_found h ts x rest p e s =
     ap (λ f. result_by h f ts) p ∙ bound (expression_end ts) (x, drop 1 rest) (λ x. Some (Function h.spot h.name h.binds h.sort None x.0, x.1)) _ (semicolon_found (drop 1 ts) x rest e s) refl
 
 -- a keyword, an expression and a semicolon
-word_found : (is : Lookahead → Bool) (ts : List Token) (x : Ex) (rest : List Token) → is (peek ts) ≡ true → Expression (drop 1 ts) x rest → peek rest ≡ see.Mark mark.Semicolon → asked (is (peek ts)) (expression_end ts) ≡ Some (x, drop 1 rest)
-word_found is ts x rest p e s = ap (λ t. asked t (expression_end ts)) p ∙ semicolon_found (drop 1 ts) x rest e s
+word_found : (is : Lookahead → Bool) (ts : List Token) (x : Ex) (rest : List Token) → is (peek ts) ≡ true → Expression (drop 1 ts) x rest → peek rest ≡ see.Mark mark.Semicolon → only_if (is (peek ts)) (expression_end ts) ≡ Some (x, drop 1 rest)
+word_found is ts x rest p e s = ap (λ t. only_if t (expression_end ts)) p ∙ semicolon_found (drop 1 ts) x rest e s
 
 parts_found : (h : Header) (ts : List Token) (x y : Ex) (b c : List Token) → peek ts ≡ see.Mark mark.BraceOpen → peek (drop 1 ts) ≡ see.Keyword word.Zero → Expression (drop 2 ts) x b → peek b ≡ see.Mark mark.Semicolon
     → peek (drop 1 b) ≡ see.Keyword word.Step → Expression (drop 2 b) y c → peek c ≡ see.Mark mark.Semicolon → peek (drop 1 c) ≡ see.Mark mark.BraceClose
     → result_at h ts ≡ Some (Function h.spot h.name h.binds h.sort (Some x) y, drop 2 c)
 parts_found h ts x y b c p q e s t g u v =
     ap (λ f. result_by h f ts) p
-    ∙ bound (asked (is_zero (peek (drop 1 ts))) (expression_end (drop 1 ts))) (x, drop 1 b) (λ x. and_then (asked (is_step (peek x.1)) (expression_end x.1)) (λ y.
+    ∙ bound (only_if (is_zero (peek (drop 1 ts))) (expression_end (drop 1 ts))) (x, drop 1 b) (λ x. and_then (only_if (is_step (peek x.1)) (expression_end x.1)) (λ y.
     and_then (expect mark.BraceClose y.1) (λ rest. Some (Function h.spot h.name h.binds h.sort (Some x.0) y.0, rest)))) _
     (word_found is_zero (drop 1 ts) x b (ap is_zero q) (subst (λ l. Expression l x b) (sym (dd 1 1 ts)) e) s)
-    (bound (asked (is_step (peek (drop 1 b))) (expression_end (drop 1 b))) (y, drop 1 c) (λ y. and_then (expect mark.BraceClose y.1) (λ rest. Some (Function h.spot h.name h.binds h.sort (Some x) y.0, rest))) _
+    (bound (only_if (is_step (peek (drop 1 b))) (expression_end (drop 1 b))) (y, drop 1 c) (λ y. and_then (expect mark.BraceClose y.1) (λ rest. Some (Function h.spot h.name h.binds h.sort (Some x) y.0, rest))) _
     (word_found is_step (drop 1 b) y c (ap is_step t) (subst (λ l. Expression l y c) (sym (dd 1 1 b)) g) u)
     (bound (expect mark.BraceClose (drop 1 c)) (drop 2 c) (λ rest. Some (Function h.spot h.name h.binds h.sort (Some x) y, rest)) _ (expect_at mark.BraceClose 1 c refl v) refl))
 
-function_found : (ts a : List Token) (bs : List Bind) (s : SortName) (x : De) (rest : List Token) → Head (see.Keyword word.Function) ts → Closed IsBind (drop 3 ts) bs a → peek a ≡ see.Mark mark.Colon → sort_at (drop 1 a) ≡ Some s
+function_found : (ts a : List Token) (bs : List Bind) (s : SortName) (x : De) (rest : List Token) → Head (see.Keyword word.Function) ts → ClosedList IsBind (drop 3 ts) bs a → peek a ≡ see.Mark mark.Colon → sort_at (drop 1 a) ≡ Some s
     → result_at (header (spot_of ts) (name_of (drop 1 ts)) bs s) (drop 2 a) ≡ Some (x, rest) → declaration ts ≡ Some (x, rest)
 unfolding declaration
 function_found ts a bs s x rest h c p q r =
     ap (λ f. declaration_by f ts) h.keyword
-    ∙ bound (head ts) (name_of (drop 1 ts), drop 3 ts) (λ n. and_then (closed bind n.1) (λ bs. and_then (sort_behind bs.1) (λ s. result_at (header (spot_of ts) n.0 bs.0 s.0) s.1))) _ (head_found (see.Keyword word.Function) ts h)
-    (bound (closed bind (drop 3 ts)) (bs, a) (λ bs. and_then (sort_behind bs.1) (λ s. result_at (header (spot_of ts) (name_of (drop 1 ts)) bs.0 s.0) s.1)) _ (binds_found (drop 3 ts) bs a c)
+    ∙ bound (head ts) (name_of (drop 1 ts), drop 3 ts) (λ n. and_then (closed_list bind n.1) (λ bs. and_then (sort_behind bs.1) (λ s. result_at (header (spot_of ts) n.0 bs.0 s.0) s.1))) _ (head_found (see.Keyword word.Function) ts h)
+    (bound (closed_list bind (drop 3 ts)) (bs, a) (λ bs. and_then (sort_behind bs.1) (λ s. result_at (header (spot_of ts) (name_of (drop 1 ts)) bs.0 s.0) s.1)) _ (binds_found (drop 3 ts) bs a c)
     (bound (sort_behind a) (s, drop 2 a) (λ s. result_at (header (spot_of ts) (name_of (drop 1 ts)) bs s.0) s.1) _ (sort_behind_found a s p q) r))
 
 pub declaration_found : (ts : List Token) (x : De) (rest : List Token) → Declaration ts x rest → declaration ts ≡ Some (x, rest)
 unfolding declaration
 declaration_found ts x rest (is_procedure {d = d} {a = a} {b = b} {ps = ps} {cs = cs} {body = body} h c m blk k) =
     ap (λ f. declaration_by f ts) h.keyword
-    ∙ bound (head ts) (name_of (drop 1 ts), drop 3 ts) (λ n. and_then (closed parameter n.1) (λ ps. and_then (many begins_clause clause (length ps.1) [] ps.1) (λ cs.
+    ∙ bound (head ts) (name_of (drop 1 ts), drop 3 ts) (λ n. and_then (closed_list parameter n.1) (λ ps. and_then (many begins_clause clause (length ps.1) [] ps.1) (λ cs.
     and_then (block (statement statement_limit) cs.1) (λ b. Some (Procedure (spot_of ts) n.0 ps.0 cs.0 b.trees, b.rest))))) _ (head_found (see.Keyword word.Procedure) ts h)
-    (bound (closed parameter (drop 3 ts)) (ps, a) (λ ps. and_then (many begins_clause clause (length ps.1) [] ps.1) (λ cs.
+    (bound (closed_list parameter (drop 3 ts)) (ps, a) (λ ps. and_then (many begins_clause clause (length ps.1) [] ps.1) (λ cs.
     and_then (block (statement statement_limit) cs.1) (λ b. Some (Procedure (spot_of ts) (name_of (drop 1 ts)) ps.0 cs.0 b.trees, b.rest)))) _ (parameters_found (drop 3 ts) ps a c)
     (bound (many begins_clause clause (length a) [] a) (cs, b) (λ cs. and_then (block (statement statement_limit) cs.1) (λ b. Some (Procedure (spot_of ts) (name_of (drop 1 ts)) ps cs.0 b.trees, b.rest))) _ (clauses_found a cs b m (block_opens blk))
-    (bound (block (statement statement_limit) b) (bodied body d rest) (λ b. Some (Procedure (spot_of ts) (name_of (drop 1 ts)) ps cs b.trees, b.rest)) _ (block_of blk statement_limit k) refl)))
+    (bound (block (statement statement_limit) b) (body_parse body d rest) (λ b. Some (Procedure (spot_of ts) (name_of (drop 1 ts)) ps cs b.trees, b.rest)) _ (block_of blk statement_limit k) refl)))
 declaration_found ts x rest (is_lemma {d = d} {a = a} {b = b} {bs = bs} {cs = cs} {body = body} h c m blk k) =
     ap (λ f. declaration_by f ts) h.keyword
-    ∙ bound (head ts) (name_of (drop 1 ts), drop 3 ts) (λ n. and_then (closed bind n.1) (λ bs. and_then (many begins_lclause lclause (length bs.1) [] bs.1) (λ cs.
+    ∙ bound (head ts) (name_of (drop 1 ts), drop 3 ts) (λ n. and_then (closed_list bind n.1) (λ bs. and_then (many begins_lclause lclause (length bs.1) [] bs.1) (λ cs.
     and_then (lblock (lstatement statement_limit) cs.1) (λ b. Some (Lemma (spot_of ts) n.0 bs.0 cs.0 b.trees, b.rest))))) _ (head_found (see.Keyword word.Lemma) ts h)
-    (bound (closed bind (drop 3 ts)) (bs, a) (λ bs. and_then (many begins_lclause lclause (length bs.1) [] bs.1) (λ cs.
+    (bound (closed_list bind (drop 3 ts)) (bs, a) (λ bs. and_then (many begins_lclause lclause (length bs.1) [] bs.1) (λ cs.
     and_then (lblock (lstatement statement_limit) cs.1) (λ b. Some (Lemma (spot_of ts) (name_of (drop 1 ts)) bs.0 cs.0 b.trees, b.rest)))) _ (binds_found (drop 3 ts) bs a c)
     (bound (many begins_lclause lclause (length a) [] a) (cs, b) (λ cs. and_then (lblock (lstatement statement_limit) cs.1) (λ b. Some (Lemma (spot_of ts) (name_of (drop 1 ts)) bs cs.0 b.trees, b.rest))) _ (lclauses_found a cs b m (lblock_opens blk))
-    (bound (lblock (lstatement statement_limit) b) (lbodied body d rest) (λ b. Some (Lemma (spot_of ts) (name_of (drop 1 ts)) bs cs b.trees, b.rest)) _ (lblock_of blk statement_limit k) refl)))
+    (bound (lblock (lstatement statement_limit) b) (lbody_parse body d rest) (λ b. Some (Lemma (spot_of ts) (name_of (drop 1 ts)) bs cs b.trees, b.rest)) _ (lblock_of blk statement_limit k) refl)))
 declaration_found ts x rest (is_function {a = a} {b = b} {bs = bs} {s = s} {x = y} h c p q r e u) =
     function_found ts a bs s _ _ h c p q (plain_found (header (spot_of ts) (name_of (drop 1 ts)) bs s) (drop 2 a) y b r (subst (λ l. Expression l y b) (sym (dd 2 1 a)) e) u)
 declaration_found ts x rest (recursive {a = a} {b = b} {c = c} {bs = bs} {s = s} {x = y} {y = z} h l p q r t e u v g w i) =
@@ -212,22 +212,22 @@ declaration_found ts x rest (recursive {a = a} {b = b} {c = c} {bs = bs} {s = s}
 declaration_found ts x rest (is_export {a = a} {xs = xs} p q r s t c u) =
     ap (λ f. declaration_by f ts) p
     ∙ bound (before mark.Equals (name (drop 1 ts))) (name_of (drop 1 ts), drop 3 ts) (λ n. and_then (before mark.RoundOpen (name n.1)) (λ p.
-    and_then (before mark.Semicolon (closed expression p.1)) (λ xs. Some (Export (spot_of ts) n.0 p.0 xs.0, xs.1)))) _
+    and_then (before mark.Semicolon (closed_list expression p.1)) (λ xs. Some (Export (spot_of ts) n.0 p.0 xs.0, xs.1)))) _
     (before_of mark.Equals (name (drop 1 ts)) (name_of (drop 1 ts)) (drop 2 ts) (name_at 1 ts q) refl r ∙ ap (λ l. Some (name_of (drop 1 ts), l)) (dd 2 1 ts))
-    (bound (before mark.RoundOpen (name (drop 3 ts))) (name_of (drop 3 ts), drop 5 ts) (λ p. and_then (before mark.Semicolon (closed expression p.1)) (λ xs. Some (Export (spot_of ts) (name_of (drop 1 ts)) p.0 xs.0, xs.1))) _
+    (bound (before mark.RoundOpen (name (drop 3 ts))) (name_of (drop 3 ts), drop 5 ts) (λ p. and_then (before mark.Semicolon (closed_list expression p.1)) (λ xs. Some (Export (spot_of ts) (name_of (drop 1 ts)) p.0 xs.0, xs.1))) _
     (before_of mark.RoundOpen (name (drop 3 ts)) (name_of (drop 3 ts)) (drop 4 ts) (name_at 3 ts s) refl t ∙ ap (λ l. Some (name_of (drop 3 ts), l)) (dd 4 1 ts))
-    (bound (before mark.Semicolon (closed expression (drop 5 ts))) (xs, drop 1 a) (λ xs. Some (Export (spot_of ts) (name_of (drop 1 ts)) (name_of (drop 3 ts)) xs.0, xs.1)) _
-    (before_of mark.Semicolon (closed expression (drop 5 ts)) xs a (expressions_found (drop 5 ts) xs a c) refl u) refl))
+    (bound (before mark.Semicolon (closed_list expression (drop 5 ts))) (xs, drop 1 a) (λ xs. Some (Export (spot_of ts) (name_of (drop 1 ts)) (name_of (drop 3 ts)) xs.0, xs.1)) _
+    (before_of mark.Semicolon (closed_list expression (drop 5 ts)) xs a (expressions_found (drop 5 ts) xs a c) refl u) refl))
 
 -- a declaration takes tokens
 head_left : (k : Keyword) (ts : List Token) → Head (see.Keyword k) ts → 1 ≤ length ts
 head_left k ts h = word_left ts k h.keyword
 
-binds_short : (ts : List Token) (xs : List Bind) (rest : List Token) → Closed IsBind ts xs rest → length rest ≤ length ts
+binds_short : (ts : List Token) (xs : List Bind) (rest : List Token) → ClosedList IsBind ts xs rest → length rest ≤ length ts
 unfolding Any
 binds_short = closed_short IsBind bind Any (λ ts x rest h f. bind_found ts x rest h) bind_short
 
-parameters_short : (ts : List Token) (xs : List Param) (rest : List Token) → Closed IsParam ts xs rest → length rest ≤ length ts
+parameters_short : (ts : List Token) (xs : List Param) (rest : List Token) → ClosedList IsParam ts xs rest → length rest ≤ length ts
 unfolding Any
 parameters_short = closed_short IsParam parameter Any (λ ts x rest h f. parameter_found ts x rest h) parameter_short
 

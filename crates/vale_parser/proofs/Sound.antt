@@ -25,17 +25,17 @@ use Rattle.vale_syntax.specs.Operators.{any}
 use Rattle.vale_syntax.specs.Peek.{peek, spot_of}
 use Rattle.vale_syntax.specs.Trees.{Ex}
 use Rattle.vale_syntax.specs.Expressions.{Spells, name_of, depth_limit}
-use Rattle.vale_syntax.specs.Parse.{parse}
+use Rattle.vale_syntax.specs.inner.Parse.{parse}
 use Rattle.vale_syntax.specs.Lists.{Relation}
 use Rattle.vale_syntax.specs.Programs.{Ar, Memory, Value}
 use Rattle.vale_syntax.specs.Statements.{is_plain, tokens_before, Expression, sort_at, Argument, memory, value, Invariant, invariant_ as is_invariant_, Test, test as is_test}
-use Rattle.vale_syntax.specs.Declarations.{IsName, name as is_name_, IsBind, bind as is_bind, IsSecret, secret, open_, IsPlace, place as is_place, IsParam, operand, out, inline_, ghost_, block as is_block, kind_at, direction_by}
+use Rattle.vale_syntax.specs.Declarations.{IsName, name as is_name_, IsBind, bind as is_bind, IsSecret, secret, open_, IsPlace, place as is_place, IsParam, operand_param, out_param, inline_param, ghost_param, block_param as is_block, kind_at, direction_by}
 use Rattle.vale_syntax.proofs.Sound.{bind_some as parse_some, sound}
-use Rattle.expr_parser.specs.Reads.{expression as expression_front}
-use Rattle.vale_parser.specs.Productions.{plain_only, expression}
+use Rattle.expr_parser.specs.inner.Reads.{expression as expression_front}
+use Rattle.vale_parser.specs.inner.Productions.{plain_only, expression}
 use Rattle.vale_syntax.specs.inner.Marks.{is_mark}
-use Rattle.vale_parser.specs.Parts.{bind as and_then, expect, before, separated}
-use Rattle.vale_parser.specs.Productions.{asked, is_name, is_secret, is_invariant, name, sort_behind, kind_behind, bind, place_at, place, inline_by, guarded_by, param_by, parameter, memory_at, value_at, argument_by, argument, expression_end, invariant_, test}
+use Rattle.vale_parser.specs.inner.Parts.{bind as and_then, expect, before, comma_list}
+use Rattle.vale_parser.specs.inner.Productions.{only_if, is_name, is_secret, is_invariant, name, sort_behind, kind_behind, bind, place_at, place, inline_by, secret_param_by, param_by, parameter, memory_at, value_at, argument_by, argument, expression_end, invariant_, test}
 use Rattle.vale_syntax.proofs.MarkTests.{peek_is}
 use Rattle.vale_parser.proofs.Parts.{bind_some, expected, separated_sound}
 use Rattle.vale_parser.proofs.Found.{dd}
@@ -47,7 +47,7 @@ pair_of p q h = (cc, cc)
 pub finish : {A : Type 0} (Item : Relation A) (ts : List Token) (p q : A × List Token) → Some p ≡ Some q → Item ts p.0 p.1 → Item ts q.0 q.1
 finish Item ts p q e h = let f = pair_of p q e in subst (λ x. Item ts x q.1) f.0 (subst (λ l. Item ts p.0 l) f.1 h)
 
-pub on_asked : {A : Type 0} (b : Bool) (o : Option A) (y : A) → asked b o ≡ Some y → (b ≡ true) × (o ≡ Some y)
+pub on_asked : {A : Type 0} (b : Bool) (o : Option A) (y : A) → only_if b o ≡ Some y → (b ≡ true) × (o ≡ Some y)
 on_asked true o y h = (refl, h)
 on_asked false o y h = absurd cc
 
@@ -59,7 +59,7 @@ is_name_is _ h = absurd (false≢true h)
 pub on_name : {B : Type 0} (k : ℕ) (ts : List Token) (F : Name × List Token → Option B) (y : B) → and_then (name (drop k ts)) F ≡ Some y → (peek (drop k ts) ≡ see.Name) × (F (name_of (drop k ts), drop (k + 1) ts) ≡ Some y)
 on_name k ts F y h = by_test (is_name (peek (drop k ts))) refl h
   where
-    by_test : (b : Bool) → is_name (peek (drop k ts)) ≡ b → and_then (asked b (Some (name_of (drop k ts), drop 1 (drop k ts)))) F ≡ Some y → (peek (drop k ts) ≡ see.Name) × (F (name_of (drop k ts), drop (k + 1) ts) ≡ Some y)
+    by_test : (b : Bool) → is_name (peek (drop k ts)) ≡ b → and_then (only_if b (Some (name_of (drop k ts), drop 1 (drop k ts)))) F ≡ Some y → (peek (drop k ts) ≡ see.Name) × (F (name_of (drop k ts), drop (k + 1) ts) ≡ Some y)
     by_test true e h = (is_name_is _ e, ap (λ l. F (name_of (drop k ts), l)) (sym (dd k 1 ts)) ∙ h)
     by_test false e h = absurd cc
 
@@ -142,15 +142,15 @@ place_sound ts r rest h = by_test (is_secret (peek ts)) refl h
         finish IsPlace ts _ (r, rest) a.1 (is_place open_ a.0)
 
 -- parameters, behind `secret` or nothing
-guarded_sound : (ts mid : List Token) (b : Bool) (p : Param) (rest : List Token) → IsSecret ts b mid → (f : Lookahead) → peek mid ≡ f → guarded_by (spot_of ts) b f (drop 1 mid) ≡ Some (p, rest) → IsParam ts p rest
+guarded_sound : (ts mid : List Token) (b : Bool) (p : Param) (rest : List Token) → IsSecret ts b mid → (f : Lookahead) → peek mid ≡ f → secret_param_by (spot_of ts) b f (drop 1 mid) ≡ Some (p, rest) → IsParam ts p rest
 guarded_sound ts mid b p rest s (see.Keyword word.In) e h =
     let a = on_name 1 mid (λ n. and_then (kind_behind n.1) (λ k. Some (param.Operand (spot_of ts) b direction.In n.0 k.0, k.1))) (p, rest) h in
     let (k, q, r, t) = on_kind 2 mid (λ k. Some (param.Operand (spot_of ts) b direction.In (name_of (drop 1 mid)) k.0, k.1)) (p, rest) a.1 in
-    finish IsParam ts _ (p, rest) t (operand s (ap direction_by e) a.0 q r)
+    finish IsParam ts _ (p, rest) t (operand_param s (ap direction_by e) a.0 q r)
 guarded_sound ts mid b p rest s (see.Keyword word.InOut) e h =
     let a = on_name 1 mid (λ n. and_then (kind_behind n.1) (λ k. Some (param.Operand (spot_of ts) b direction.InOut n.0 k.0, k.1))) (p, rest) h in
     let (k, q, r, t) = on_kind 2 mid (λ k. Some (param.Operand (spot_of ts) b direction.InOut (name_of (drop 1 mid)) k.0, k.1)) (p, rest) a.1 in
-    finish IsParam ts _ (p, rest) t (operand s (ap direction_by e) a.0 q r)
+    finish IsParam ts _ (p, rest) t (operand_param s (ap direction_by e) a.0 q r)
 guarded_sound ts mid b p rest s (see.Keyword word.Block) e h =
     let a = on_name 1 mid (λ n. Some (param.Block (spot_of ts) b n.0, n.1)) (p, rest) h in
     finish IsParam ts _ (p, rest) a.1 (is_block s e a.0)
@@ -161,14 +161,14 @@ param_sound ts p rest (see.Keyword word.Secret) e h = guarded_sound ts (drop 1 t
 param_sound ts p rest (see.Keyword word.Out) e h =
     let a = on_name 1 ts (λ n. and_then (kind_behind n.1) (λ k. Some (param.Out (spot_of ts) n.0 k.0, k.1))) (p, rest) h in
     let (k, q, r, t) = on_kind 2 ts (λ k. Some (param.Out (spot_of ts) (name_of (drop 1 ts)) k.0, k.1)) (p, rest) a.1 in
-    finish IsParam ts _ (p, rest) t (out e a.0 q r)
+    finish IsParam ts _ (p, rest) t (out_param e a.0 q r)
 param_sound ts p rest (see.Keyword word.Inline) e h =
     let a = on_name 1 ts (λ n. and_then (sort_behind n.1) (λ t. inline_by t.0.sort (param.Inline (spot_of ts) n.0, t.1))) (p, rest) h in
     let (s, q, r, t) = on_sort 2 ts (λ t. inline_by t.0.sort (param.Inline (spot_of ts) (name_of (drop 1 ts)), t.1)) (p, rest) a.1 in
     by_sort s.sort s.spot a.0 q r t
   where
     by_sort : (o : Sort) (s : Spot) → peek (drop 1 ts) ≡ see.Name → peek (drop 2 ts) ≡ see.Mark mark.Colon → sort_at (drop 3 ts) ≡ Some (record { sort = o; spot = s }) → inline_by o (param.Inline (spot_of ts) (name_of (drop 1 ts)), drop 4 ts) ≡ Some (p, rest) → IsParam ts p rest
-    by_sort sort.Int s a q r h = finish IsParam ts (param.Inline (spot_of ts) (name_of (drop 1 ts)), drop 4 ts) (p, rest) h (inline_ e a q r)
+    by_sort sort.Int s a q r h = finish IsParam ts (param.Inline (spot_of ts) (name_of (drop 1 ts)), drop 4 ts) (p, rest) h (inline_param e a q r)
     by_sort sort.Bool s a q r h = absurd cc
     by_sort sort.W64 s a q r h = absurd cc
     by_sort sort.W128 s a q r h = absurd cc
@@ -176,7 +176,7 @@ param_sound ts p rest (see.Keyword word.Inline) e h =
 param_sound ts p rest (see.Keyword word.Ghost) e h =
     let a = on_name 1 ts (λ n. and_then (sort_behind n.1) (λ t. Some (param.Ghost (spot_of ts) n.0 t.0, t.1))) (p, rest) h in
     let (s, q, r, t) = on_sort 2 ts (λ t. Some (param.Ghost (spot_of ts) (name_of (drop 1 ts)) t.0, t.1)) (p, rest) a.1 in
-    finish IsParam ts _ (p, rest) t (ghost_ e a.0 q r)
+    finish IsParam ts _ (p, rest) t (ghost_param e a.0 q r)
 param_sound ts p rest _ e h = guarded_sound ts ts false p rest open_ (peek ts) refl h
 
 pub parameter_sound : (ts : List Token) (p : Param) (rest : List Token) → parameter ts ≡ Some (p, rest) → IsParam ts p rest
@@ -198,8 +198,8 @@ argument_sound ts a rest h = by_test (is_name (peek ts) && is_mark mark.SquareOp
     by_at i mid false e p q x h = value_sound ts a rest h
     by_at i mid true e p q x h =
         let f = and_parts _ _ e in
-        let g = on_expect mark.RoundOpen 2 mid (λ rest. and_then (before mark.RoundClose (separated expression rest)) (λ a. Some (Memory (name_of ts) i a.0, a.1))) (a, rest) h in
-        let (xs, m, r, s, t) = on_before mark.RoundClose (separated expression (drop 3 mid)) (λ a. Some (Memory (name_of ts) i a.0, a.1)) (a, rest) g.1 in
+        let g = on_expect mark.RoundOpen 2 mid (λ rest. and_then (before mark.RoundClose (comma_list expression rest)) (λ a. Some (Memory (name_of ts) i a.0, a.1))) (a, rest) h in
+        let (xs, m, r, s, t) = on_before mark.RoundClose (comma_list expression (drop 3 mid)) (λ a. Some (Memory (name_of ts) i a.0, a.1)) (a, rest) g.1 in
         finish Argument ts _ (a, rest) t (memory p q x (peek_is mark.SquareClose (peek mid) f.0) (peek_is mark.At (peek (drop 1 mid)) f.1) g.0 (separated_sound Expression expression expression_sound (drop 3 mid) xs m r) s)
 
     by_index : (o : Option (Ex × List Token)) → expression (drop 2 ts) ≡ o → peek ts ≡ see.Name → peek (drop 1 ts) ≡ see.Mark mark.SquareOpen → argument_by o ts ≡ Some (a, rest) → Argument ts a rest

@@ -11,9 +11,9 @@ use Rattle.vale_syntax.specs.Peek.{peek}
 use Rattle.vale_syntax.specs.declared.fault.MatchFault.{MatchFault}
 use Rattle.vale_syntax.specs.declared.fault.MatchFault.TheVariants.{NoMatch, NoMemory}
 use Rattle.vale_syntax.specs.inner.Marks.{is_mark}
-use Rattle.vale_parser.specs.Parts.{bind, Parser, before, commas, separated, closed, many}
+use Rattle.vale_parser.specs.inner.Parts.{bind, Parser, before, commas, comma_list, closed_list, many}
 use Rattle.vale_syntax.specs.inner.Matches.{Gives}
-use Rattle.vale_parser.specs.Things.{Thing, tagged}
+use Rattle.vale_parser.specs.inner.Things.{Thing, thing_parser}
 
 -- a list that was found, as things
 unfoldable pub as_things : {A : Type 0} → (A → Thing) → Option (List A × List Token) → Option (List Thing × List Token)
@@ -30,17 +30,17 @@ choice : {A : Type 0} (f : A → Thing) (b : Bool) (x y : Option (List Thing × 
 choice f true x y u v h k = h
 choice f false x y u v h k = k
 
-commas_tagged : {A : Type 0} (f : A → Thing) (item : Parser A) (n : ℕ) (xs : List A) (ts : List Token) → commas (tagged f item) n (map f xs) ts ≡ as_things f (commas item n xs ts)
+commas_tagged : {A : Type 0} (f : A → Thing) (item : Parser A) (n : ℕ) (xs : List A) (ts : List Token) → commas (thing_parser f item) n (map f xs) ts ≡ as_things f (commas item n xs ts)
 unfolding commas as_things
 commas_tagged f item zero xs ts = refl
 commas_tagged f item (suc n) xs ts =
     choice f (is_mark mark.Comma (peek ts)) _ (Some (map f xs, ts)) _ (Some (xs, ts))
-    (step f (item (drop 1 ts)) (λ p. commas item n (xs ++ p.0 ∷ []) p.1) (λ p. commas (tagged f item) n (map f xs ++ p.0 ∷ []) p.1)
-    (λ p. ap (λ l. commas (tagged f item) n l p.1) (sym (map-append f xs (p.0 ∷ []))) ∙ commas_tagged f item n (xs ++ p.0 ∷ []) p.1))
+    (step f (item (drop 1 ts)) (λ p. commas item n (xs ++ p.0 ∷ []) p.1) (λ p. commas (thing_parser f item) n (map f xs ++ p.0 ∷ []) p.1)
+    (λ p. ap (λ l. commas (thing_parser f item) n l p.1) (sym (map-append f xs (p.0 ∷ []))) ∙ commas_tagged f item n (xs ++ p.0 ∷ []) p.1))
     refl
 
-pub separated_tagged : {A : Type 0} (f : A → Thing) (item : Parser A) (ts : List Token) → separated (tagged f item) ts ≡ as_things f (separated item ts)
-separated_tagged f item ts = step f (item ts) (λ p. commas item (length ts) (p.0 ∷ []) p.1) (λ p. commas (tagged f item) (length ts) (p.0 ∷ []) p.1) (λ p. commas_tagged f item (length ts) (p.0 ∷ []) p.1)
+pub separated_tagged : {A : Type 0} (f : A → Thing) (item : Parser A) (ts : List Token) → comma_list (thing_parser f item) ts ≡ as_things f (comma_list item ts)
+separated_tagged f item ts = step f (item ts) (λ p. commas item (length ts) (p.0 ∷ []) p.1) (λ p. commas (thing_parser f item) (length ts) (p.0 ∷ []) p.1) (λ p. commas_tagged f item (length ts) (p.0 ∷ []) p.1)
 
 before_tagged : {A : Type 0} (f : A → Thing) (o : Option (List A × List Token)) → before mark.RoundClose (as_things f o) ≡ as_things f (before mark.RoundClose o)
 unfolding as_things
@@ -51,21 +51,21 @@ before_tagged f (Some q) = by_test (is_mark mark.RoundClose (peek q.1))
     by_test true = refl
     by_test false = refl
 
-pub closed_tagged : {A : Type 0} (f : A → Thing) (item : Parser A) (ts : List Token) → closed (tagged f item) ts ≡ as_things f (closed item ts)
+pub closed_tagged : {A : Type 0} (f : A → Thing) (item : Parser A) (ts : List Token) → closed_list (thing_parser f item) ts ≡ as_things f (closed_list item ts)
 unfolding as_things
 closed_tagged f item ts =
-    choice f (is_mark mark.RoundClose (peek ts)) (Some ([], drop 1 ts)) _ (Some ([], drop 1 ts)) _ refl (ap (before mark.RoundClose) (separated_tagged f item ts) ∙ before_tagged f (separated item ts))
+    choice f (is_mark mark.RoundClose (peek ts)) (Some ([], drop 1 ts)) _ (Some ([], drop 1 ts)) _ refl (ap (before mark.RoundClose) (separated_tagged f item ts) ∙ before_tagged f (comma_list item ts))
 
-many_from : {A : Type 0} (f : A → Thing) (begins : Lookahead → Bool) (item : Parser A) (n : ℕ) (xs : List A) (ts : List Token) → many begins (tagged f item) n (map f xs) ts ≡ as_things f (many begins item n xs ts)
+many_from : {A : Type 0} (f : A → Thing) (begins : Lookahead → Bool) (item : Parser A) (n : ℕ) (xs : List A) (ts : List Token) → many begins (thing_parser f item) n (map f xs) ts ≡ as_things f (many begins item n xs ts)
 unfolding many as_things
 many_from f begins item zero xs ts = refl
 many_from f begins item (suc n) xs ts =
     choice f (begins (peek ts)) _ (Some (map f xs, ts)) _ (Some (xs, ts))
-    (step f (item ts) (λ p. many begins item n (xs ++ p.0 ∷ []) p.1) (λ p. many begins (tagged f item) n (map f xs ++ p.0 ∷ []) p.1)
-    (λ p. ap (λ l. many begins (tagged f item) n l p.1) (sym (map-append f xs (p.0 ∷ []))) ∙ many_from f begins item n (xs ++ p.0 ∷ []) p.1))
+    (step f (item ts) (λ p. many begins item n (xs ++ p.0 ∷ []) p.1) (λ p. many begins (thing_parser f item) n (map f xs ++ p.0 ∷ []) p.1)
+    (λ p. ap (λ l. many begins (thing_parser f item) n l p.1) (sym (map-append f xs (p.0 ∷ []))) ∙ many_from f begins item n (xs ++ p.0 ∷ []) p.1))
     refl
 
-pub many_tagged : {A : Type 0} (f : A → Thing) (begins : Lookahead → Bool) (item : Parser A) (n : ℕ) (ts : List Token) → many begins (tagged f item) n [] ts ≡ as_things f (many begins item n [] ts)
+pub many_tagged : {A : Type 0} (f : A → Thing) (begins : Lookahead → Bool) (item : Parser A) (n : ℕ) (ts : List Token) → many begins (thing_parser f item) n [] ts ≡ as_things f (many begins item n [] ts)
 many_tagged f begins item n ts = many_from f begins item n [] ts
 
 -- things of one kind, back as that kind

@@ -5,7 +5,7 @@ use Rattle.vale_syntax.specs.declared.mark.Mark.TheVariants as mark
 use Rattle.vale_syntax.specs.declared.lookahead.Lookahead.{Lookahead}
 use Rattle.vale_syntax.specs.Peek.{peek}
 use Rattle.vale_syntax.specs.inner.Marks.{is_mark}
-use Rattle.vale_parser.specs.Parts.{bind, Parser, commas, many}
+use Rattle.vale_parser.specs.inner.Parts.{bind, Parser, commas, many}
 
 -- a turn that is left
 pub turns : (n i : ℕ) → i < n → n - i ≡ suc (n - (i + 1))

@@ -6,7 +6,7 @@ use Rattle.vale_syntax.specs.declared.token.Token.{Token}
 use Rattle.vale_syntax.specs.Peek.{spot_of}
 use Rattle.vale_syntax.specs.Programs.{De}
 use Rattle.vale_syntax.specs.Declarations.{Declaration, AreDecls, no_decls, more_decls}
-use Rattle.vale_parser.specs.Productions.{declaration}
+use Rattle.vale_parser.specs.inner.Productions.{declaration}
 use Rattle.vale_parser.specs.Sources.{Front, no_more, one_more, StopsAt}
 use Rattle.vale_parser.proofs.Sound.{pair_of}
 use Rattle.vale_parser.proofs.FoundDeclarations.{declaration_found, declaration_shorter}

@@ -1,6 +1,2 @@
-pub mod Looks
-pub mod Parts
-pub mod Productions
-pub mod Reads
+pub mod inner
 pub mod Sources
-pub mod Things

@@ -2,13 +2,13 @@
 
 ghost use Rattle.std.specs.Prelude.{◌≡◌, [], length, drop, map};
 ghost use Rattle.vale_syntax.specs.Peek.{peek};
-ghost use Rattle.vale_syntax.specs.Trees.{tree};
-ghost use Rattle.vale_syntax.specs.Programs.{arg_tree};
-ghost use Rattle.vale_parser.specs.Productions.{expression};
-ghost use Rattle.vale_parser.specs.Parts.{separated, closed, many};
-ghost use Rattle.vale_parser.specs.Productions.{memory_at, value_at, argument_by, argument, invariant_, is_invariant, test};
+ghost use Rattle.vale_syntax.specs.inner.CodeTrees.{tree};
+ghost use Rattle.vale_syntax.specs.inner.CodeTrees.{arg_tree};
+ghost use Rattle.vale_parser.specs.inner.Productions.{expression};
+ghost use Rattle.vale_parser.specs.inner.Parts.{comma_list, closed_list, many};
+ghost use Rattle.vale_parser.specs.inner.Productions.{memory_at, value_at, argument_by, argument, invariant_, is_invariant, test};
 ghost use Rattle.vale_syntax.specs.inner.Matches.{Gives};
-ghost use Rattle.vale_parser.specs.Things.{Thing, AnArg, tagged};
+ghost use Rattle.vale_parser.specs.inner.Things.{Thing, AnArg, thing_parser};
 
 use crate::clauses::asked;
 use crate::front::{Read, expect, expression, is_at};
@@ -24,7 +24,7 @@ pub(crate) fn expressions<'a>(
     alloc: Global,
     tokens: &'a [Token],
 ) -> Result<Read<'a, Items<Expr>>, MatchFault>
-    ensures { Gives (λ r. (map tree r.part, r.rest.now)) result (closed expression tokens.now) }
+    ensures { Gives (λ r. (map tree r.part, r.rest.now)) result (closed_list expression tokens.now) }
 {
     closed(alloc, tokens)
 }
@@ -33,7 +33,7 @@ fn some_expressions<'a>(
     alloc: Global,
     tokens: &'a [Token],
 ) -> Result<Read<'a, Items<Expr>>, MatchFault>
-    ensures { Gives (λ r. (map tree r.part, r.rest.now)) result (separated expression tokens.now) }
+    ensures { Gives (λ r. (map tree r.part, r.rest.now)) result (comma_list expression tokens.now) }
 {
     separated(alloc, tokens)
 }
@@ -85,7 +85,7 @@ fn indexed<'a>(alloc: Global, tokens: &'a [Token]) -> Result<Read<'a, Arg>, Matc
     }
 }
 
-#[tactic(auto, unfolding(crate::specs::Productions::argument))]
+#[tactic(auto, unfolding(crate::specs::inner::Productions::argument))]
 fn argument<'a>(alloc: Global, tokens: &'a [Token]) -> Result<Read<'a, Arg>, MatchFault>
     ensures { Gives (λ r. (arg_tree r.part, r.rest.now)) result (argument tokens.now) }
 {
@@ -99,7 +99,7 @@ fn argument<'a>(alloc: Global, tokens: &'a [Token]) -> Result<Read<'a, Arg>, Mat
 impl Part for Arg {
     ghost thing = { λ a. AnArg (arg_tree a) };
 
-    ghost found = { tagged AnArg argument };
+    ghost found = { thing_parser AnArg argument };
 
     fn read<'a>(alloc: Global, tokens: &'a [Token]) -> Result<Read<'a, Self>, MatchFault> {
         argument(alloc, tokens)
@@ -111,12 +111,12 @@ pub(crate) fn arguments<'a>(
     alloc: Global,
     tokens: &'a [Token],
 ) -> Result<Read<'a, Items<Arg>>, MatchFault>
-    ensures { Gives (λ r. (map arg_tree r.part, r.rest.now)) result (closed argument tokens.now) }
+    ensures { Gives (λ r. (map arg_tree r.part, r.rest.now)) result (closed_list argument tokens.now) }
 {
     closed(alloc, tokens)
 }
 
-#[tactic(auto, unfolding(crate::specs::Productions::invariant_))]
+#[tactic(auto, unfolding(crate::specs::inner::Productions::invariant_))]
 fn invariant<'a>(alloc: Global, tokens: &'a [Token]) -> Result<Read<'a, Expr>, MatchFault>
     ensures { Gives (λ r. (tree r.part, r.rest.now)) result (invariant_ tokens.now) }
 {

@@ -1,12 +1,12 @@
 // Clauses of procedures and lemmas.
 
 ghost use Rattle.std.specs.Prelude.{◌≡◌, [], length, map};
-ghost use Rattle.vale_syntax.specs.Trees.{tree};
-ghost use Rattle.vale_syntax.specs.Programs.{clause_tree, lclause_tree};
-ghost use Rattle.vale_parser.specs.Parts.{many};
-ghost use Rattle.vale_parser.specs.Productions.{asked, expression_end, abi_clause, reads_clause, modifies_clause, clause, begins_clause, lclause, begins_lclause};
+ghost use Rattle.vale_syntax.specs.inner.CodeTrees.{tree};
+ghost use Rattle.vale_syntax.specs.inner.CodeTrees.{clause_tree, lclause_tree};
+ghost use Rattle.vale_parser.specs.inner.Parts.{many};
+ghost use Rattle.vale_parser.specs.inner.Productions.{only_if, expression_end, abi_clause, reads_clause, modifies_clause, clause, begins_clause, lclause, begins_lclause};
 ghost use Rattle.vale_syntax.specs.inner.Matches.{Gives};
-ghost use Rattle.vale_parser.specs.Things.{Thing, AClause, ALClause, tagged};
+ghost use Rattle.vale_parser.specs.inner.Things.{Thing, AClause, ALClause, thing_parser};
 
 use crate::front::{Read, expect, expression};
 use crate::parameters::{names, places};
@@ -38,7 +38,7 @@ pub(crate) fn asked<'a>(
     is_asked: bool,
     tokens: &'a [Token],
 ) -> Result<Read<'a, Expr>, MatchFault>
-    ensures { Gives (λ r. (tree r.part, r.rest.now)) result (asked is_asked (expression_end tokens.now)) }
+    ensures { Gives (λ r. (tree r.part, r.rest.now)) result (only_if is_asked (expression_end tokens.now)) }
 {
     if is_asked {
         expression_end(alloc, tokens)
@@ -79,7 +79,7 @@ fn modifies_clause<'a>(alloc: Global, tokens: &'a [Token]) -> Result<Read<'a, Cl
     })
 }
 
-#[tactic(auto, unfolding(crate::specs::Productions::clause))]
+#[tactic(auto, unfolding(crate::specs::inner::Productions::clause))]
 fn clause<'a>(alloc: Global, tokens: &'a [Token]) -> Result<Read<'a, Clause>, MatchFault>
     ensures { Gives (λ r. (clause_tree r.part, r.rest.now)) result (clause tokens.now) }
 {
@@ -113,7 +113,7 @@ fn clause<'a>(alloc: Global, tokens: &'a [Token]) -> Result<Read<'a, Clause>, Ma
     }
 }
 
-#[tactic(auto, unfolding(crate::specs::Productions::lclause))]
+#[tactic(auto, unfolding(crate::specs::inner::Productions::lclause))]
 fn lemma_clause<'a>(alloc: Global, tokens: &'a [Token]) -> Result<Read<'a, LemmaClause>, MatchFault>
     ensures { Gives (λ r. (lclause_tree r.part, r.rest.now)) result (lclause tokens.now) }
 {
@@ -147,7 +147,7 @@ fn lemma_clause<'a>(alloc: Global, tokens: &'a [Token]) -> Result<Read<'a, Lemma
 impl Part for Clause {
     ghost thing = { λ c. AClause (clause_tree c) };
 
-    ghost found = { tagged AClause clause };
+    ghost found = { thing_parser AClause clause };
 
     fn read<'a>(alloc: Global, tokens: &'a [Token]) -> Result<Read<'a, Self>, MatchFault> {
         clause(alloc, tokens)
@@ -175,7 +175,7 @@ impl Repeated for Clause {
 impl Part for LemmaClause {
     ghost thing = { λ c. ALClause (lclause_tree c) };
 
-    ghost found = { tagged ALClause lclause };
+    ghost found = { thing_parser ALClause lclause };
 
     fn read<'a>(alloc: Global, tokens: &'a [Token]) -> Result<Read<'a, Self>, MatchFault> {
         lemma_clause(alloc, tokens)

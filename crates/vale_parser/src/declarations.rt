@@ -2,11 +2,11 @@
 
 ghost use Rattle.std.specs.Prelude.{◌≡◌};
 ghost use Rattle.vale_syntax.specs.Peek.{peek};
-ghost use Rattle.vale_syntax.specs.Trees.{tree};
-ghost use Rattle.vale_syntax.specs.Programs.{decl_tree};
-ghost use Rattle.vale_parser.specs.Productions.{head, procedure_, lemma_, function_, plain_at, parts_at, result_at, export_, declaration};
+ghost use Rattle.vale_syntax.specs.inner.CodeTrees.{tree};
+ghost use Rattle.vale_syntax.specs.inner.CodeTrees.{decl_tree};
+ghost use Rattle.vale_parser.specs.inner.Productions.{head, procedure_, lemma_, function_, plain_at, parts_at, result_at, export_, declaration};
 ghost use Rattle.vale_syntax.specs.inner.Matches.{Gives};
-ghost use Rattle.vale_parser.specs.Reads.{header_view};
+ghost use Rattle.vale_parser.specs.inner.Reads.{header_view};
 
 use crate::arguments::expressions;
 use crate::clauses::{asked, clauses, expression_end, lemma_clauses};
@@ -172,7 +172,7 @@ fn export<'a>(alloc: Global, tokens: &'a [Token]) -> Result<Read<'a, Decl>, Matc
 }
 
 /// The declaration at the front.
-#[tactic(auto, unfolding(crate::specs::Productions::declaration))]
+#[tactic(auto, unfolding(crate::specs::inner::Productions::declaration))]
 pub(crate) fn declaration<'a>(
     alloc: Global,
     tokens: &'a [Token],

@@ -3,11 +3,11 @@
 ghost use Rattle.std.specs.Prelude.{◌≡◌};
 ghost use Rattle.std.specs.List.{list_all};
 ghost use Rattle.vale_syntax.specs.Peek.{peek};
-ghost use Rattle.vale_syntax.specs.Trees.{tree};
+ghost use Rattle.vale_syntax.specs.inner.CodeTrees.{tree};
 ghost use Rattle.vale_syntax.specs.Statements.{tokens_before, is_plain};
 ghost use Rattle.vale_syntax.specs.inner.Marks.{is_mark};
-ghost use Rattle.vale_parser.specs.Parts.{expect};
-ghost use Rattle.vale_parser.specs.Productions.{is_name, name, expression};
+ghost use Rattle.vale_parser.specs.inner.Parts.{expect};
+ghost use Rattle.vale_parser.specs.inner.Productions.{is_name, name, expression};
 ghost use Rattle.vale_syntax.specs.inner.Matches.{Gives};
 
 use expr_parser::{after, name_of, read_front};

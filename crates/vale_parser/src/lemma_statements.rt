@@ -2,10 +2,11 @@
 
 ghost use Rattle.std.specs.Prelude.{◌≡◌, ◌≤◌, ◌<◌, suc, max, drop, length, map, IfOk};
 ghost use Rattle.vale_syntax.specs.Peek.{peek};
-ghost use Rattle.vale_syntax.specs.Programs.{lstmt_tree, lsts, no_lsts};
-ghost use Rattle.vale_parser.specs.Productions.{lcall, lstatement, lstatement_by, larms, lblock, lbody, lelse_by};
+ghost use Rattle.vale_syntax.specs.Programs.{no_lsts};
+ghost use Rattle.vale_syntax.specs.inner.CodeTrees.{lstmt_tree, lsts};
+ghost use Rattle.vale_parser.specs.inner.Productions.{lcall, lstatement, lstatement_by, larms, lblock, lbody, lelse_by};
 ghost use Rattle.vale_syntax.specs.inner.Matches.{Gives};
-ghost use Rattle.vale_parser.specs.Reads.{lstated_view, lbodied_view, larmed_view, lbranches_view};
+ghost use Rattle.vale_parser.specs.inner.Reads.{lstatement_view, lbody_view, lelse_view, lbranches_view};
 
 use crate::arguments::{expressions, test};
 use crate::clauses::expression_end;
@@ -51,7 +52,7 @@ pub(crate) struct LemmaBranches<'a> {
 }
 
 fn call<'a>(alloc: Global, tokens: &'a [Token]) -> Result<LemmaStated<'a>, MatchFault>
-    ensures found { Gives lstated_view result (lcall tokens.now) }
+    ensures found { Gives lstatement_view result (lcall tokens.now) }
     ensures shallow { IfOk result (λ s. s.height ≤ 1) }
 {
     let rest = expect(after(tokens, 1), Mark::RoundOpen)?;
@@ -66,9 +67,9 @@ fn call<'a>(alloc: Global, tokens: &'a [Token]) -> Result<LemmaStated<'a>, Match
 
 // A statement with a depth of at most `left`.
 #[cycle(statement)]
-#[tactic(auto, unfolding(crate::specs::Productions::lstatement))]
+#[tactic(auto, unfolding(crate::specs::inner::Productions::lstatement))]
 fn statement<'a>(alloc: Global, tokens: &'a [Token], left: u8) -> Result<LemmaStated<'a>, MatchFault>
-    ensures found { Gives lstated_view result (lstatement left tokens.now) }
+    ensures found { Gives lstatement_view result (lstatement left tokens.now) }
     ensures shallow { IfOk result (λ s. s.height ≤ left) }
 {
     if left == 0 {
@@ -84,7 +85,7 @@ fn statement_of<'a>(
     below: u8,
 ) -> Result<LemmaStated<'a>, MatchFault>
     requires { below < 255 }
-    ensures found { Gives lstated_view result (lstatement_by (lstatement below) (peek tokens.now) tokens.now) }
+    ensures found { Gives lstatement_view result (lstatement_by (lstatement below) (peek tokens.now) tokens.now) }
     ensures shallow { IfOk result (λ s. s.height ≤ suc below) }
 {
     let spot = spot_of(tokens);
@@ -133,7 +134,7 @@ fn second_arm<'a>(
     tokens: &'a [Token],
     below: u8,
 ) -> Result<LemmaArmed<'a>, MatchFault>
-    ensures found { Gives larmed_view result (lelse_by (lstatement below) tokens.now) }
+    ensures found { Gives lelse_view result (lelse_by (lstatement below) tokens.now) }
     ensures shallow { IfOk result (λ a. a.height ≤ below) }
 {
     if is_else(peek(tokens)) {
@@ -159,7 +160,7 @@ pub(crate) fn block<'a>(
     tokens: &'a [Token],
     below: u8,
 ) -> Result<LemmaBodied<'a>, MatchFault>
-    ensures found { Gives lbodied_view result (lblock (lstatement below) tokens.now) }
+    ensures found { Gives lbody_view result (lblock (lstatement below) tokens.now) }
     ensures shallow { IfOk result (λ b. b.height ≤ below) }
 {
     let rest = expect(tokens, Mark::BraceOpen)?;
@@ -169,7 +170,7 @@ pub(crate) fn block<'a>(
 // Statements as far as the closing brace.
 #[cycle(statement)]
 fn body<'a>(alloc: Global, tokens: &'a [Token], below: u8) -> Result<LemmaBodied<'a>, MatchFault>
-    ensures found { Gives lbodied_view result (lbody (lstatement below) (length tokens.now) no_lsts 0 tokens.now) }
+    ensures found { Gives lbody_view result (lbody (lstatement below) (length tokens.now) no_lsts 0 tokens.now) }
     ensures shallow { IfOk result (λ b. b.height ≤ below) }
 {
     let mut trees = Items::new(alloc);

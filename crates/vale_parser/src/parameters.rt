@@ -1,10 +1,10 @@
 // Names with sorts, places that are read, and parameters.
 
 ghost use Rattle.std.specs.Prelude.{◌≡◌, map};
-ghost use Rattle.vale_parser.specs.Parts.{separated, closed};
-ghost use Rattle.vale_parser.specs.Productions.{name, bind, place, place_at, parameter, operand_at, out_at, inline_at, ghost_at, block_at, guarded};
+ghost use Rattle.vale_parser.specs.inner.Parts.{comma_list, closed_list};
+ghost use Rattle.vale_parser.specs.inner.Productions.{name, bind, place, place_at, parameter, operand_at, out_at, inline_at, ghost_at, block_at, secret_param};
 ghost use Rattle.vale_syntax.specs.inner.Matches.{Gives};
-ghost use Rattle.vale_parser.specs.Things.{Thing, ABind, APlace, AParam, AName, tagged};
+ghost use Rattle.vale_parser.specs.inner.Things.{Thing, ABind, APlace, AParam, AName, thing_parser};
 
 use crate::front::{Read, name};
 use crate::part::{Part, closed, separated};
@@ -15,7 +15,7 @@ use std::alloc::Global;
 use vale_syntax::{Bind, Direction, Lookahead, Name, Param, ReadPlace, Spot, Token, peek, MatchFault};
 use x64_syntax::{Keyword, Sort};
 
-#[tactic(auto, unfolding(crate::specs::Productions::bind))]
+#[tactic(auto, unfolding(crate::specs::inner::Productions::bind))]
 fn bind<'a>(alloc: Global, tokens: &'a [Token]) -> Result<Read<'a, Bind>, MatchFault>
     ensures { Gives (λ r. (r.part, r.rest.now)) result (bind tokens.now) }
 {
@@ -49,7 +49,7 @@ fn place_at<'a>(
     })
 }
 
-#[tactic(auto, unfolding(crate::specs::Productions::place))]
+#[tactic(auto, unfolding(crate::specs::inner::Productions::place))]
 fn place<'a>(alloc: Global, tokens: &'a [Token]) -> Result<Read<'a, ReadPlace>, MatchFault>
     ensures { Gives (λ r. (r.part, r.rest.now)) result (place tokens.now) }
 {
@@ -144,7 +144,7 @@ fn guarded<'a>(
     is_secret: bool,
     tokens: &'a [Token],
 ) -> Result<Read<'a, Param>, MatchFault>
-    ensures { Gives (λ r. (r.part, r.rest.now)) result (guarded spot is_secret tokens.now) }
+    ensures { Gives (λ r. (r.part, r.rest.now)) result (secret_param spot is_secret tokens.now) }
 {
     let rest = after(tokens, 1);
     match peek(tokens) {
@@ -161,7 +161,7 @@ fn guarded<'a>(
     }
 }
 
-#[tactic(auto, unfolding(crate::specs::Productions::parameter))]
+#[tactic(auto, unfolding(crate::specs::inner::Productions::parameter))]
 fn parameter<'a>(alloc: Global, tokens: &'a [Token]) -> Result<Read<'a, Param>, MatchFault>
     ensures { Gives (λ r. (r.part, r.rest.now)) result (parameter tokens.now) }
 {
@@ -179,7 +179,7 @@ fn parameter<'a>(alloc: Global, tokens: &'a [Token]) -> Result<Read<'a, Param>, 
 impl Part for Bind {
     ghost thing = { λ b. ABind b };
 
-    ghost found = { tagged ABind bind };
+    ghost found = { thing_parser ABind bind };
 
     fn read<'a>(alloc: Global, tokens: &'a [Token]) -> Result<Read<'a, Self>, MatchFault> {
         bind(alloc, tokens)
@@ -189,7 +189,7 @@ impl Part for Bind {
 impl Part for ReadPlace {
     ghost thing = { λ p. APlace p };
 
-    ghost found = { tagged APlace place };
+    ghost found = { thing_parser APlace place };
 
     fn read<'a>(alloc: Global, tokens: &'a [Token]) -> Result<Read<'a, Self>, MatchFault> {
         place(alloc, tokens)
@@ -199,7 +199,7 @@ impl Part for ReadPlace {
 impl Part for Param {
     ghost thing = { λ p. AParam p };
 
-    ghost found = { tagged AParam parameter };
+    ghost found = { thing_parser AParam parameter };
 
     fn read<'a>(alloc: Global, tokens: &'a [Token]) -> Result<Read<'a, Self>, MatchFault> {
         parameter(alloc, tokens)
@@ -211,7 +211,7 @@ pub(crate) fn binds<'a>(
     alloc: Global,
     tokens: &'a [Token],
 ) -> Result<Read<'a, Items<Bind>>, MatchFault>
-    ensures { Gives (λ r. (r.part, r.rest.now)) result (closed bind tokens.now) }
+    ensures { Gives (λ r. (r.part, r.rest.now)) result (closed_list bind tokens.now) }
 {
     closed(alloc, tokens)
 }
@@ -221,7 +221,7 @@ pub(crate) fn parameters<'a>(
     alloc: Global,
     tokens: &'a [Token],
 ) -> Result<Read<'a, Items<Param>>, MatchFault>
-    ensures { Gives (λ r. (r.part, r.rest.now)) result (closed parameter tokens.now) }
+    ensures { Gives (λ r. (r.part, r.rest.now)) result (closed_list parameter tokens.now) }
 {
     closed(alloc, tokens)
 }
@@ -231,7 +231,7 @@ pub(crate) fn places<'a>(
     alloc: Global,
     tokens: &'a [Token],
 ) -> Result<Read<'a, Items<ReadPlace>>, MatchFault>
-    ensures { Gives (λ r. (r.part, r.rest.now)) result (separated place tokens.now) }
+    ensures { Gives (λ r. (r.part, r.rest.now)) result (comma_list place tokens.now) }
 {
     separated(alloc, tokens)
 }
@@ -241,7 +241,7 @@ pub(crate) fn names<'a>(
     alloc: Global,
     tokens: &'a [Token],
 ) -> Result<Read<'a, Items<Name>>, MatchFault>
-    ensures { Gives (λ r. (r.part, r.rest.now)) result (separated name tokens.now) }
+    ensures { Gives (λ r. (r.part, r.rest.now)) result (comma_list name tokens.now) }
 {
     separated(alloc, tokens)
 }

@@ -4,12 +4,12 @@ ghost use Rattle.std.specs.Prelude.{◌≡◌, List, [], length, Bool, Option, m
 ghost use Rattle.vale_syntax.specs.declared.token.Token.{Token as AToken};
 ghost use Rattle.vale_syntax.specs.declared.lookahead.Lookahead.{Lookahead as ALookahead};
 ghost use Rattle.vale_syntax.specs.Peek.{peek};
-ghost use Rattle.vale_syntax.specs.Trees.{tree};
-ghost use Rattle.vale_parser.specs.Productions.{expression};
-ghost use Rattle.vale_parser.specs.Parts.{commas, separated, closed, many};
-ghost use Rattle.vale_parser.specs.Productions.{name};
+ghost use Rattle.vale_syntax.specs.inner.CodeTrees.{tree};
+ghost use Rattle.vale_parser.specs.inner.Productions.{expression};
+ghost use Rattle.vale_parser.specs.inner.Parts.{commas, comma_list, closed_list, many};
+ghost use Rattle.vale_parser.specs.inner.Productions.{name};
 ghost use Rattle.vale_syntax.specs.inner.Matches.{Gives};
-ghost use Rattle.vale_parser.specs.Things.{Thing, AnExpr, AName, tagged};
+ghost use Rattle.vale_parser.specs.inner.Things.{Thing, AnExpr, AName, thing_parser};
 
 use crate::front::{Read, expect, expression, is_at, name};
 use expr_parser::after;
@@ -33,7 +33,7 @@ pub(crate) trait Part: Sized + Drop {
 impl Part for Expr {
     ghost thing = { λ x. AnExpr (tree x) };
 
-    ghost found = { tagged AnExpr expression };
+    ghost found = { thing_parser AnExpr expression };
 
     fn read<'a>(alloc: Global, tokens: &'a [Token]) -> Result<Read<'a, Self>, MatchFault> {
         expression(alloc, tokens)
@@ -43,7 +43,7 @@ impl Part for Expr {
 impl Part for Name {
     ghost thing = { λ n. AName n };
 
-    ghost found = { tagged AName name };
+    ghost found = { thing_parser AName name };
 
     fn read<'a>(alloc: Global, tokens: &'a [Token]) -> Result<Read<'a, Self>, MatchFault> {
         name(alloc, tokens)
@@ -87,7 +87,7 @@ pub(crate) fn separated<'a, T: Part>(
     alloc: Global,
     tokens: &'a [Token],
 ) -> Result<Read<'a, Items<T>>, MatchFault>
-    ensures { Gives (λ r. (map T.thing r.part, r.rest.now)) result (separated T.found tokens.now) }
+    ensures { Gives (λ r. (map T.thing r.part, r.rest.now)) result (comma_list T.found tokens.now) }
 {
     let first = T::read(alloc, tokens)?;
     let mut parts = Items::new(alloc);
@@ -100,7 +100,7 @@ pub(crate) fn closed<'a, T: Part>(
     alloc: Global,
     tokens: &'a [Token],
 ) -> Result<Read<'a, Items<T>>, MatchFault>
-    ensures { Gives (λ r. (map T.thing r.part, r.rest.now)) result (closed T.found tokens.now) }
+    ensures { Gives (λ r. (map T.thing r.part, r.rest.now)) result (closed_list T.found tokens.now) }
 {
     if is_at(tokens, Mark::RoundClose) {
         return Ok(Read {

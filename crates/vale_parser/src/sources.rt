@@ -3,7 +3,8 @@
 ghost use Rattle.std.specs.Prelude.{◌≡◌, List, map, IfOk, Err};
 ghost use Rattle.vale_syntax.specs.declared.spot.Spot.{Spot as ASpot};
 ghost use Rattle.vale_syntax.specs.declared.token.Token.{Token as AToken};
-ghost use Rattle.vale_syntax.specs.Programs.{De, decl_tree};
+ghost use Rattle.vale_syntax.specs.Programs.{De};
+ghost use Rattle.vale_syntax.specs.inner.CodeTrees.{decl_tree};
 ghost use Rattle.vale_syntax.specs.Declarations.{Declaration, AreDecls};
 ghost use Rattle.vale_parser.specs.declared.sources.ParseFault.TheVariants.{NotADecl};
 ghost use Rattle.vale_parser.specs.Sources.{StopsAt};

@@ -3,11 +3,12 @@
 
 ghost use Rattle.std.specs.Prelude.{◌≡◌, ◌≤◌, ◌<◌, suc, max, drop, length, map, IfOk};
 ghost use Rattle.vale_syntax.specs.Peek.{peek};
-ghost use Rattle.vale_syntax.specs.Trees.{tree};
-ghost use Rattle.vale_syntax.specs.Programs.{stmt_tree, sts, no_sts};
-ghost use Rattle.vale_parser.specs.Productions.{asked, is_if, test, call_at, assign_at, ghost_statement, named_by, simple, statement, statement_by, loop_at, arms, block, body, else_by};
+ghost use Rattle.vale_syntax.specs.inner.CodeTrees.{tree};
+ghost use Rattle.vale_syntax.specs.Programs.{no_sts};
+ghost use Rattle.vale_syntax.specs.inner.CodeTrees.{stmt_tree, sts};
+ghost use Rattle.vale_parser.specs.inner.Productions.{only_if, is_if, test, call_at, assign_at, ghost_statement, call_or_assign, simple, statement, statement_by, loop_at, arms, block, body, else_by};
 ghost use Rattle.vale_syntax.specs.inner.Matches.{Gives};
-ghost use Rattle.vale_parser.specs.Reads.{stated_view, bodied_view, armed_view, branches_view};
+ghost use Rattle.vale_parser.specs.inner.Reads.{statement_view, body_view, else_view, branches_view};
 
 use crate::arguments::{arguments, invariants, test};
 use crate::clauses::{asked, expression_end};
@@ -89,7 +90,7 @@ fn ghost_at<'a>(alloc: Global, tokens: &'a [Token]) -> Result<Read<'a, Stmt>, Ma
 }
 
 fn named<'a>(alloc: Global, tokens: &'a [Token]) -> Result<Read<'a, Stmt>, MatchFault>
-    ensures { Gives (λ r. (stmt_tree r.part, r.rest.now)) result (named_by (peek (drop 1 tokens.now)) tokens.now) }
+    ensures { Gives (λ r. (stmt_tree r.part, r.rest.now)) result (call_or_assign (peek (drop 1 tokens.now)) tokens.now) }
 {
     match peek(after(tokens, 1)) {
         Lookahead::Mark(Mark::RoundOpen) => call_at(alloc, tokens),
@@ -99,7 +100,7 @@ fn named<'a>(alloc: Global, tokens: &'a [Token]) -> Result<Read<'a, Stmt>, Match
 }
 
 // A statement without statements inside.
-#[tactic(auto, unfolding(crate::specs::Productions::simple))]
+#[tactic(auto, unfolding(crate::specs::inner::Productions::simple))]
 fn simple<'a>(alloc: Global, tokens: &'a [Token]) -> Result<Read<'a, Stmt>, MatchFault>
     ensures { Gives (λ r. (stmt_tree r.part, r.rest.now)) result (simple tokens.now) }
 {
@@ -118,7 +119,7 @@ fn simple<'a>(alloc: Global, tokens: &'a [Token]) -> Result<Read<'a, Stmt>, Matc
 }
 
 fn inline_test<'a>(alloc: Global, tokens: &'a [Token]) -> Result<Read<'a, Expr>, MatchFault>
-    ensures { Gives (λ r. (tree r.part, r.rest.now)) result (asked (is_if (peek (drop 1 tokens.now))) (test (drop 2 tokens.now))) }
+    ensures { Gives (λ r. (tree r.part, r.rest.now)) result (only_if (is_if (peek (drop 1 tokens.now))) (test (drop 2 tokens.now))) }
 {
     if is_if(peek(after(tokens, 1))) {
         test(alloc, after(tokens, 2))
@@ -129,9 +130,9 @@ fn inline_test<'a>(alloc: Global, tokens: &'a [Token]) -> Result<Read<'a, Expr>,
 
 // A statement with a depth of at most `left`.
 #[cycle(statement)]
-#[tactic(auto, unfolding(crate::specs::Productions::statement))]
+#[tactic(auto, unfolding(crate::specs::inner::Productions::statement))]
 fn statement<'a>(alloc: Global, tokens: &'a [Token], left: u8) -> Result<Stated<'a>, MatchFault>
-    ensures found { Gives stated_view result (statement left tokens.now) }
+    ensures found { Gives statement_view result (statement left tokens.now) }
     ensures shallow { IfOk result (λ s. s.height ≤ left) }
 {
     if left == 0 {
@@ -143,7 +144,7 @@ fn statement<'a>(alloc: Global, tokens: &'a [Token], left: u8) -> Result<Stated<
 #[cycle(statement)]
 fn statement_of<'a>(alloc: Global, tokens: &'a [Token], below: u8) -> Result<Stated<'a>, MatchFault>
     requires { below < 255 }
-    ensures found { Gives stated_view result (statement_by (statement below) (peek tokens.now) tokens.now) }
+    ensures found { Gives statement_view result (statement_by (statement below) (peek tokens.now) tokens.now) }
     ensures shallow { IfOk result (λ s. s.height ≤ suc below) }
 {
     let spot = spot_of(tokens);
@@ -190,7 +191,7 @@ fn loop_at<'a>(
     below: u8,
 ) -> Result<Stated<'a>, MatchFault>
     requires { below < 255 }
-    ensures found { Gives stated_view result (loop_at (statement below) spot (tree test.entry.part, test.entry.rest.now)) }
+    ensures found { Gives statement_view result (loop_at (statement below) spot (tree test.entry.part, test.entry.rest.now)) }
     ensures shallow { IfOk result (λ s. s.height ≤ suc below) }
 {
     let invariants = invariants(alloc, test.rest)?;
@@ -221,7 +222,7 @@ fn arms<'a>(alloc: Global, tokens: &'a [Token], below: u8) -> Result<Branches<'a
 
 #[cycle(statement)]
 fn second_arm<'a>(alloc: Global, tokens: &'a [Token], below: u8) -> Result<Armed<'a>, MatchFault>
-    ensures found { Gives armed_view result (else_by (statement below) tokens.now) }
+    ensures found { Gives else_view result (else_by (statement below) tokens.now) }
     ensures shallow { IfOk result (λ a. a.height ≤ below) }
 {
     if is_else(peek(tokens)) {
@@ -247,7 +248,7 @@ pub(crate) fn block<'a>(
     tokens: &'a [Token],
     below: u8,
 ) -> Result<Bodied<'a>, MatchFault>
-    ensures found { Gives bodied_view result (block (statement below) tokens.now) }
+    ensures found { Gives body_view result (block (statement below) tokens.now) }
     ensures shallow { IfOk result (λ b. b.height ≤ below) }
 {
     let rest = expect(tokens, Mark::BraceOpen)?;
@@ -257,7 +258,7 @@ pub(crate) fn block<'a>(
 // Statements as far as the closing brace.
 #[cycle(statement)]
 fn body<'a>(alloc: Global, tokens: &'a [Token], below: u8) -> Result<Bodied<'a>, MatchFault>
-    ensures found { Gives bodied_view result (body (statement below) (length tokens.now) no_sts 0 tokens.now) }
+    ensures found { Gives body_view result (body (statement below) (length tokens.now) no_sts 0 tokens.now) }
     ensures shallow { IfOk result (λ b. b.height ≤ below) }
 {
     let mut trees = Items::new(alloc);

@@ -4,7 +4,7 @@ ghost use Rattle.std.specs.Prelude.{◌≡◌};
 ghost use Rattle.vale_syntax.specs.Peek.{peek, text_of};
 ghost use Rattle.vale_syntax.specs.Statements.{sort_at, sort_word};
 ghost use Rattle.vale_syntax.specs.Declarations.{kind_at, kind_word, abi_at, abi_word};
-ghost use Rattle.vale_parser.specs.Productions.{is_name, is_if, is_else, is_invariant, is_decreases, is_secret, is_zero, is_step, sort_behind, kind_behind};
+ghost use Rattle.vale_parser.specs.inner.Productions.{is_name, is_if, is_else, is_invariant, is_decreases, is_secret, is_zero, is_step, sort_behind, kind_behind};
 ghost use Rattle.vale_syntax.specs.inner.Matches.{Gives};
 
 use crate::front::{Read, expect};
@@ -50,7 +50,7 @@ fn text_of(tokens: &[Token]) -> &[u8]
 }
 
 /// The sort that the first token is.
-#[tactic(auto, unfolding(crate::specs::Looks::sort_at))]
+#[tactic(auto, unfolding(crate::specs::inner::Looks::sort_at))]
 pub(crate) fn sort_at(tokens: &[Token]) -> Option<SortName>
     ensures { result ≡ sort_at tokens.now }
 {
@@ -61,7 +61,7 @@ pub(crate) fn sort_at(tokens: &[Token]) -> Option<SortName>
 }
 
 /// The kind of operands that the first token is.
-#[tactic(auto, unfolding(crate::specs::Looks::kind_at))]
+#[tactic(auto, unfolding(crate::specs::inner::Looks::kind_at))]
 pub(crate) fn kind_at(tokens: &[Token]) -> Option<KindName>
     ensures { result ≡ kind_at tokens.now }
 {
@@ -72,7 +72,7 @@ pub(crate) fn kind_at(tokens: &[Token]) -> Option<KindName>
 }
 
 /// The calling convention that the first token is.
-#[tactic(auto, unfolding(crate::specs::Looks::abi_at))]
+#[tactic(auto, unfolding(crate::specs::inner::Looks::abi_at))]
 pub(crate) fn abi_at(tokens: &[Token]) -> Option<AbiName>
     ensures { result ≡ abi_at tokens.now }
 {

@@ -14,8 +14,9 @@ use Rattle.vale_syntax.specs.declared.lookahead.Lookahead.TheVariants as see
 use Rattle.vale_syntax.specs.Operators.{rank_of, any, right_of, again_of}
 use Rattle.vale_syntax.specs.Peek.{peek, spot_of}
 use Rattle.vale_syntax.specs.Trees.{Ex, Exs, none, more, with_last, Call, Index, Binary}
-use Rattle.vale_syntax.specs.Expressions.{name_of, leaf_by, leaf, Spells, not_, negative, minus, postfix, operations, Chain, chain_end, operation, Indexed, index_end, index, Atom, token, call, brackets, Arguments, nothing, some, Others, others_end, next}
-use Rattle.vale_syntax.specs.Parse.{Got, got, got_list, ◌>>=◌, operator, Parser, alone, bracketed, under, others, arguments_by, arguments, named_by, atom_by, atom, indexed_by, indexed, minus_by, unary_by, unary, chain, ranked, parse}
+use Rattle.vale_syntax.specs.Expressions.{name_of, leaf_by, leaf, Spells, not_, negative, minus, postfix, operations, Chain, chain_end, operation, Indices, index_end, index, Atom, token, call, brackets, Arguments, no_arguments, some_arguments, Others, others_end, others_more}
+use Rattle.vale_syntax.specs.Options.{◌>>=◌}
+use Rattle.vale_syntax.specs.inner.Parse.{Got, got, got_list, operator, Parser, leaf_parse, round_by, unary_node, others, arguments_by, arguments, name_by, atom_by, atom, indices_by, indices, minus_by, unary_by, unary, chain, rank_parse, parse}
 use Rattle.vale_syntax.proofs.Grows.{chain_grows, indexed_grows, others_grow, spells_deep, atom_deep, spells_short}
 
 -- how loosely a token holds on to an expression before it: 0 and 1 for brackets, then the operators by rank
@@ -130,7 +131,7 @@ behind_right : {s : Spot} {d : ℕ} {x : Ex} {ts : List Token} {e : ℕ} {y : Ex
 behind_right o r k chain_end h = let g = right_tight o in omega (arith, h, g)
 behind_right o r k (operation {ts = ts} p e q g t) h = let f = follows o p (q ∙ k) in let l = loose_operator (peek ts) p e in omega (arith, f, l)
 
-behind_indexed : {s : Spot} {d : ℕ} {x : Ex} {ts : List Token} {e : ℕ} {y : Ex} {rest : List Token} → Indexed s d x ts e y rest → 1 < loose (peek rest) → 0 < loose (peek ts)
+behind_indexed : {s : Spot} {d : ℕ} {x : Ex} {ts : List Token} {e : ℕ} {y : Ex} {rest : List Token} → Indices s d x ts e y rest → 1 < loose (peek rest) → 0 < loose (peek ts)
 unfolding loose
 behind_indexed index_end h = omega (arith, h)
 behind_indexed (index {ts = ts} p g q t) h = loose_mark (peek ts) mark.SquareOpen 0 p (omega arith)
@@ -138,7 +139,7 @@ behind_indexed (index {ts = ts} p g q t) h = loose_mark (peek ts) mark.SquareOpe
 behind_argument : {d : ℕ} {xs : Exs} {ts : List Token} {e : ℕ} {ys : Exs} {rest : List Token} → Others d xs ts e ys rest → suc any < loose (peek ts)
 unfolding loose
 behind_argument (others_end {ts = ts} p) = loose_mark (peek ts) mark.RoundClose 7 p (omega arith)
-behind_argument (next {ts = ts} p h t) = loose_mark (peek ts) mark.Comma 7 p (omega arith)
+behind_argument (others_more {ts = ts} p h t) = loose_mark (peek ts) mark.Comma 7 p (omega arith)
 
 bound : {A B : Type 0} (o : Option A) (x : A) (f : A → Option B) (y : Option B) → o ≡ Some x → f x ≡ y → (o >>= f) ≡ y
 bound o x f y p q = ap (λ o. o >>= f) p ∙ q
@@ -184,16 +185,16 @@ starts (minus p q h) = ap is_start p
 starts (postfix {ts = ts} a i) = start_of_atom (peek ts) (starts_atom a)
 starts (operations h t) = starts h
 
-unary_atom : (sub : Parser) (b : ℕ) (f : Lookahead) (ts : List Token) → is_atom_start f ≡ true → unary_by sub b f ts ≡ (atom sub ts >>= indexed sub b (suc b) (spot_of ts))
+unary_atom : (sub : Parser) (b : ℕ) (f : Lookahead) (ts : List Token) → is_atom_start f ≡ true → unary_by sub b f ts ≡ (atom sub ts >>= indices sub b (suc b) (spot_of ts))
 unfolding is_atom_start
 unary_atom sub b (see.Mark mark.RoundOpen) ts h = refl
 unary_atom sub b (see.Mark _) ts h = absurd (false≢true h)
 unary_atom sub b _ ts h = refl
 
-alone_is : (ts : List Token) (x : Ex) → leaf ts ≡ Some x → alone (leaf ts) ts ≡ Some (got x 1 (drop 1 ts))
-alone_is ts x h = ap (λ o. alone o ts) h
+alone_is : (ts : List Token) (x : Ex) → leaf ts ≡ Some x → leaf_parse (leaf ts) ts ≡ Some (got x 1 (drop 1 ts))
+alone_is ts x h = ap (λ o. leaf_parse o ts) h
 
-named_leaf : (sub : Parser) (f : Lookahead) (ts : List Token) (x : Ex) → 0 < loose f → leaf ts ≡ Some x → named_by sub f ts ≡ Some (got x 1 (drop 1 ts))
+named_leaf : (sub : Parser) (f : Lookahead) (ts : List Token) (x : Ex) → 0 < loose f → leaf ts ≡ Some x → name_by sub f ts ≡ Some (got x 1 (drop 1 ts))
 unfolding loose
 named_leaf sub (see.Mark mark.RoundOpen) ts x h k = absurd (omega (arith, h))
 named_leaf sub _ ts x h k = alone_is ts x k
@@ -224,18 +225,18 @@ chain_next : (sub : Parser) (b n r : ℕ) (s : Spot) (d : ℕ) (x : Ex) (ts : Li
 unfolding chain
 chain_next sub b n r s d x ts o h p q k e = rw (the_operator r (peek ts) o p q, le-leb d b k, e) refl
 
-index_none : (sub : Parser) (b n : ℕ) (s : Spot) (g : Got) → 1 < loose (peek g.rest) → indexed sub b n s g ≡ Some g
-unfolding indexed loose
+index_none : (sub : Parser) (b n : ℕ) (s : Spot) (g : Got) → 1 < loose (peek g.rest) → indices sub b n s g ≡ Some g
+unfolding indices loose
 index_none sub b zero s g h = refl
 index_none sub b (suc n) s g h = by_peek (peek g.rest) h _
   where
-    by_peek : (f : Lookahead) → 1 < loose f → (go : Option Got) → indexed_by f b g go ≡ Some g
+    by_peek : (f : Lookahead) → 1 < loose f → (go : Option Got) → indices_by f b g go ≡ Some g
     by_peek (see.Mark mark.SquareOpen) h go = absurd (omega (arith, h))
     by_peek _ h go = refl
 
 index_next : (sub : Parser) (b n : ℕ) (s : Spot) (d : ℕ) (x : Ex) (ts : List Token) (h : Got) → peek ts ≡ see.Mark mark.SquareOpen → d ≤ b → sub any (drop 1 ts) ≡ Some h → peek h.rest ≡ see.Mark mark.SquareClose
-    → indexed sub b (suc n) s (got x d ts) ≡ indexed sub b n s (got (Index s x h.tree) (suc (max d h.height)) (drop 1 h.rest))
-unfolding indexed
+    → indices sub b (suc n) s (got x d ts) ≡ indices sub b n s (got (Index s x h.tree) (suc (max d h.height)) (drop 1 h.rest))
+unfolding indices
 index_next sub b n s d x ts h p k e q = rw (p, le-leb d b k, e, q) refl
 
 others_last : (sub : Parser) (n d : ℕ) (xs : Exs) (ts : List Token) → peek ts ≡ see.Mark mark.RoundClose → others sub (suc n) xs d ts ≡ Some (got_list xs d (drop 1 ts))
@@ -248,32 +249,32 @@ unfolding others
 others_next sub n d xs ts h p e = rw (p, e) refl
 
 -- a part, with a limit one lower
-part_found : {r d : ℕ} (ts : List Token) {x : Ex} {rest : List Token} → 1 ≤ d → ((b : ℕ) → d ≤ suc b → suc r < loose (peek rest) → ranked (parse b) b r ts ≡ Some (got x d rest))
+part_found : {r d : ℕ} (ts : List Token) {x : Ex} {rest : List Token} → 1 ≤ d → ((b : ℕ) → d ≤ suc b → suc r < loose (peek rest) → rank_parse (parse b) b r ts ≡ Some (got x d rest))
     → (b : ℕ) → d ≤ b → suc r < loose (peek rest) → parse b r ts ≡ Some (got x d rest)
 unfolding parse
 part_found ts deep found zero k l = absurd (omega (arith, deep, k))
 part_found ts deep found (suc b) k l = found b k l
 
 mutual
-  unfolding ranked unary atom leaf arguments others loose
+  unfolding rank_parse unary atom leaf arguments others loose
 
-  spells_found : {r d : ℕ} {ts : List Token} {x : Ex} {rest : List Token} → Spells r d ts x rest → (b : ℕ) → d ≤ suc b → suc r < loose (peek rest) → ranked (parse b) b r ts ≡ Some (got x d rest)
+  spells_found : {r d : ℕ} {ts : List Token} {x : Ex} {rest : List Token} → Spells r d ts x rest → (b : ℕ) → d ≤ suc b → suc r < loose (peek rest) → rank_parse (parse b) b r ts ≡ Some (got x d rest)
   spells_found (not_ {ts = ts} {x = x} {rest = rest} p h) b k l =
-      ap (λ f. unary_by (parse b) b f ts) p ∙ bound (parse b 0 (drop 1 ts)) _ (under (spot_of ts) Not) _ (part_found _ (spells_deep h) (spells_found h) b (omega (arith, k)) l) refl
+      ap (λ f. unary_by (parse b) b f ts) p ∙ bound (parse b 0 (drop 1 ts)) _ (unary_node (spot_of ts) Not) _ (part_found _ (spells_deep h) (spells_found h) b (omega (arith, k)) l) refl
   spells_found (negative {ts = ts} p q) b k l = ap (λ f. unary_by (parse b) b f ts) p ∙ ap (λ o. minus_by (parse b) o ts) q
   spells_found (minus {ts = ts} p q h) b k l =
       ap (λ f. unary_by (parse b) b f ts) p ∙ ap (λ o. minus_by (parse b) o ts) q
-      ∙ bound (parse b 0 (drop 1 ts)) _ (under (spot_of ts) Neg) _ (part_found _ (spells_deep h) (spells_found h) b (omega (arith, k)) l) refl
+      ∙ bound (parse b 0 (drop 1 ts)) _ (unary_node (spot_of ts) Neg) _ (part_found _ (spells_deep h) (spells_found h) b (omega (arith, k)) l) refl
   spells_found (postfix {d = d} {ts = ts} {mid = mid} {x = x} a i) b k l =
       let g = indexed_grows i in
       let deep = atom_deep a in
       unary_atom (parse b) b (peek ts) ts (starts_atom a)
-      ∙ bound (atom (parse b) ts) (got x d mid) (indexed (parse b) b (suc b) (spot_of ts)) _ (atom_found a b (omega (arith, g, k)) (behind_indexed i l))
+      ∙ bound (atom (parse b) ts) (got x d mid) (indices (parse b) b (suc b) (spot_of ts)) _ (atom_found a b (omega (arith, g, k)) (behind_indexed i l))
       (indexed_found i b (suc b) k (omega (arith, deep)) l)
   spells_found (operations {r = r} {d = d} {ts = ts} {mid = mid} {x = x} h t) b k l =
       let g = chain_grows t in
       let deep = spells_deep h in
-      bound (ranked (parse b) b r ts) (got x d mid) (chain (parse b) b (suc b) (suc r) (spot_of ts)) _ (spells_found h b (omega (arith, g, k)) (behind_left t l))
+      bound (rank_parse (parse b) b r ts) (got x d mid) (chain (parse b) b (suc b) (suc r) (spot_of ts)) _ (spells_found h b (omega (arith, g, k)) (behind_left t l))
       (chain_found t b (suc b) k (omega (arith, deep)) l)
 
   chain_found : {r : ℕ} {s : Spot} {d : ℕ} {x : Ex} {ts : List Token} {e : ℕ} {y : Ex} {rest : List Token} → Chain r s d x ts e y rest → (b n : ℕ) → e ≤ suc b → suc (suc b) ≤ n + d → suc r < loose (peek rest)
@@ -287,8 +288,8 @@ mutual
       chain_next (parse b) b n r s d x ts o (got y e mid) p q (omega (arith, g, k)) (part_found _ (spells_deep h) (spells_found h) b (omega (arith, g, k)) (behind_right o (again_of o) refl t l'))
       ∙ chain_found t b n k (omega (arith, m)) (omega (arith, l', tight))
 
-  indexed_found : {s : Spot} {d : ℕ} {x : Ex} {ts : List Token} {e : ℕ} {y : Ex} {rest : List Token} → Indexed s d x ts e y rest → (b n : ℕ) → e ≤ suc b → suc (suc b) ≤ n + d → 1 < loose (peek rest)
-      → indexed (parse b) b n s (got x d ts) ≡ Some (got y e rest)
+  indexed_found : {s : Spot} {d : ℕ} {x : Ex} {ts : List Token} {e : ℕ} {y : Ex} {rest : List Token} → Indices s d x ts e y rest → (b n : ℕ) → e ≤ suc b → suc (suc b) ≤ n + d → 1 < loose (peek rest)
+      → indices (parse b) b n s (got x d ts) ≡ Some (got y e rest)
   indexed_found {s = s} {d = d} {x = x} {ts = ts} index_end b n k m l = index_none (parse b) b n s (got x d ts) l
   indexed_found (index p h q t) b zero k m l = let g = indexed_grows t in absurd (omega (arith, g, k, m))
   indexed_found {s = s} {d = d} {x = x} {ts = ts} (index {mid = mid} {e = e} {i = i} p h q t) b (suc n) k m l =
@@ -300,16 +301,16 @@ mutual
   atom_found : {d : ℕ} {ts : List Token} {x : Ex} {rest : List Token} → Atom d ts x rest → (b : ℕ) → d ≤ suc b → 0 < loose (peek rest) → atom (parse b) ts ≡ Some (got x d rest)
   atom_found (token {ts = ts} {x = x} h) b k l = atom_leaf (parse b) (peek ts) ts x l h h
   atom_found (call {d = d} {ts = ts} {xs = xs} {rest = rest} p q h) b k l =
-      ap (λ f. atom_by (parse b) f ts) p ∙ ap (λ f. named_by (parse b) f ts) q
+      ap (λ f. atom_by (parse b) f ts) p ∙ ap (λ f. name_by (parse b) f ts) q
       ∙ bound (arguments (parse b) (drop 2 ts)) (got_list xs d rest) (λ g. Some (got (Call (name_of ts) g.trees) (suc g.height) g.rest)) _ (arguments_found h b (omega (arith, k))) refl
   atom_found (brackets {d = d} {ts = ts} {mid = mid} {x = x} p h q) b k l =
       let l' = loose_mark (peek mid) mark.RoundClose 7 q (omega arith) in
       ap (λ f. atom_by (parse b) f ts) p
-      ∙ bound (parse b any (drop 1 ts)) (got x d mid) (λ g. bracketed (peek g.rest) g) _ (part_found _ (spells_deep h) (spells_found h) b (omega (arith, k)) l') (ap (λ f. bracketed f (got x d mid)) q)
+      ∙ bound (parse b any (drop 1 ts)) (got x d mid) (λ g. round_by (peek g.rest) g) _ (part_found _ (spells_deep h) (spells_found h) b (omega (arith, k)) l') (ap (λ f. round_by f (got x d mid)) q)
 
   arguments_found : {d : ℕ} {ts : List Token} {xs : Exs} {rest : List Token} → Arguments d ts xs rest → (b : ℕ) → d ≤ b → arguments (parse b) ts ≡ Some (got_list xs d rest)
-  arguments_found (nothing {ts = ts} p) b k = ap (λ f. arguments_by (parse b) f ts) p
-  arguments_found (some {d = d} {ts = ts} {mid = mid} {x = x} h t) b k =
+  arguments_found (no_arguments {ts = ts} p) b k = ap (λ f. arguments_by (parse b) f ts) p
+  arguments_found (some_arguments {d = d} {ts = ts} {mid = mid} {x = x} h t) b k =
       let g = others_grow t in
       arguments_some (parse b) (peek ts) ts (starts h)
       ∙ bound (parse b any ts) (got x d mid) (λ g. others (parse b) (length ts) (more g.tree none) g.height g.rest) _ (part_found _ (spells_deep h) (spells_found h) b (omega (arith, g, k)) (behind_argument t))
@@ -318,8 +319,8 @@ mutual
   others_found : {d : ℕ} {xs : Exs} {ts : List Token} {e : ℕ} {ys : Exs} {rest : List Token} → Others d xs ts e ys rest → (b n : ℕ) → e ≤ b → length ts ≤ n → others (parse b) n xs d ts ≡ Some (got_list ys e rest)
   others_found (others_end {ts = ts} p) b zero k m = let g = mark_some ts mark.RoundClose p in absurd (omega (arith, g, m))
   others_found (others_end {d = d} {xs = xs} {ts = ts} p) b (suc n) k m = others_last (parse b) n d xs ts p
-  others_found (next {ts = ts} p h t) b zero k m = let g = mark_some ts mark.Comma p in absurd (omega (arith, g, m))
-  others_found (next {d = d} {e = e} {xs = xs} {y = y} {ts = ts} {mid = mid} p h t) b (suc n) k m =
+  others_found (others_more {ts = ts} p h t) b zero k m = let g = mark_some ts mark.Comma p in absurd (omega (arith, g, m))
+  others_found (others_more {d = d} {e = e} {xs = xs} {y = y} {ts = ts} {mid = mid} p h t) b (suc n) k m =
       let g = others_grow t in
       let short = spells_short h in
       let one = length-drop 1 ts in

@@ -3,19 +3,19 @@ use Rattle.std.proofs.Common.{ℕ, ◌≤◌, List, length, drop, length-drop, a
 use Rattle.vale_syntax.specs.declared.token.Token.{Token}
 use Rattle.vale_syntax.specs.declared.spot.Spot.{Spot}
 use Rattle.vale_syntax.specs.Trees.{Ex, Exs}
-use Rattle.vale_syntax.specs.Expressions.{Spells, not_, negative, minus, postfix, operations, Chain, chain_end, operation, Indexed, index_end, index, Atom, token, call, brackets, Arguments, nothing, some, Others, others_end, next}
+use Rattle.vale_syntax.specs.Expressions.{Spells, not_, negative, minus, postfix, operations, Chain, chain_end, operation, Indices, index_end, index, Atom, token, call, brackets, Arguments, no_arguments, some_arguments, Others, others_end, others_more}
 
 pub chain_grows : {r : ℕ} {s : Spot} {d : ℕ} {x : Ex} {ts : List Token} {e : ℕ} {y : Ex} {rest : List Token} → Chain r s d x ts e y rest → d ≤ e
 chain_grows chain_end = omega arith
 chain_grows (operation o p q h t) = let g = chain_grows t in omega (arith, g)
 
-pub indexed_grows : {s : Spot} {d : ℕ} {x : Ex} {ts : List Token} {e : ℕ} {y : Ex} {rest : List Token} → Indexed s d x ts e y rest → d ≤ e
+pub indexed_grows : {s : Spot} {d : ℕ} {x : Ex} {ts : List Token} {e : ℕ} {y : Ex} {rest : List Token} → Indices s d x ts e y rest → d ≤ e
 indexed_grows index_end = omega arith
 indexed_grows (index p h q t) = let g = indexed_grows t in omega (arith, g)
 
 pub others_grow : {d : ℕ} {xs : Exs} {ts : List Token} {e : ℕ} {ys : Exs} {rest : List Token} → Others d xs ts e ys rest → d ≤ e
 others_grow (others_end p) = omega arith
-others_grow (next p h t) = let g = others_grow t in omega (arith, g)
+others_grow (others_more p h t) = let g = others_grow t in omega (arith, g)
 
 mutual
   pub spells_deep : {r d : ℕ} {ts : List Token} {x : Ex} {rest : List Token} → Spells r d ts x rest → 1 ≤ d
@@ -46,7 +46,7 @@ mutual
   chain_short chain_end = omega arith
   chain_short (operation {ts = ts} {rest = rest} o p q h t) = let f = spells_short h in let g = chain_short t in drop_short 1 ts rest (omega (arith, f, g))
 
-  pub indexed_short : {s : Spot} {d : ℕ} {x : Ex} {ts : List Token} {e : ℕ} {y : Ex} {rest : List Token} → Indexed s d x ts e y rest → length rest ≤ length ts
+  pub indexed_short : {s : Spot} {d : ℕ} {x : Ex} {ts : List Token} {e : ℕ} {y : Ex} {rest : List Token} → Indices s d x ts e y rest → length rest ≤ length ts
   indexed_short index_end = omega arith
   indexed_short (index {ts = ts} {mid = mid} {rest = rest} p h q t) =
       let f = spells_short h in
@@ -62,9 +62,9 @@ mutual
       drop_short 1 ts (drop 1 mid) (omega (arith, f, g))
 
   pub arguments_short : {d : ℕ} {ts : List Token} {xs : Exs} {rest : List Token} → Arguments d ts xs rest → length rest ≤ length ts
-  arguments_short (nothing {ts = ts} p) = drop_short 1 ts (drop 1 ts) (omega arith)
-  arguments_short (some h t) = let f = spells_short h in let g = others_short t in omega (arith, f, g)
+  arguments_short (no_arguments {ts = ts} p) = drop_short 1 ts (drop 1 ts) (omega arith)
+  arguments_short (some_arguments h t) = let f = spells_short h in let g = others_short t in omega (arith, f, g)
 
   pub others_short : {d : ℕ} {xs : Exs} {ts : List Token} {e : ℕ} {ys : Exs} {rest : List Token} → Others d xs ts e ys rest → length rest ≤ length ts
   others_short (others_end {ts = ts} p) = drop_short 1 ts (drop 1 ts) (omega arith)
-  others_short (next {ts = ts} {rest = rest} p h t) = let f = spells_short h in let g = others_short t in drop_short 1 ts rest (omega (arith, f, g))
+  others_short (others_more {ts = ts} {rest = rest} p h t) = let f = spells_short h in let g = others_short t in drop_short 1 ts rest (omega (arith, f, g))

@@ -4,7 +4,8 @@ use Rattle.std.specs.Prelude.{◌&&◌, nat_le}
 use Rattle.std.specs.List.{find, list_all, AllByRecursion}
 use Rattle.std.proofs.lemmas.Bool.{and_parts, leb-true, false≢true}
 use Rattle.vale_syntax.specs.declared.mark.Mark.{Mark}
-use Rattle.vale_syntax.specs.Tokens.{begins, marks, mark_len}
+use Rattle.vale_syntax.specs.Tokens.{begins, marks}
+use Rattle.vale_syntax.specs.inner.Marks.{mark_len}
 
 -- no mark is shorter than one behind it
 longer_first : List (List ℕ × Mark) → Bool

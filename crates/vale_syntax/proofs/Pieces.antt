@@ -11,8 +11,8 @@ use Rattle.vale_syntax.specs.declared.token.TokenKind.{TokenKind}
 use Rattle.vale_syntax.specs.declared.token.TokenKind.TheVariants as kind
 use Rattle.vale_syntax.specs.declared.token.Front.TheVariants.{Skipped, Taken, Stopped}
 use Rattle.vale_syntax.specs.declared.token.NotAToken.TheVariants.{NumberTooLarge}
-use Rattle.vale_syntax.specs.Tokens.{is_blank, is_stamp_byte, stamp_len, name_front, named, is_hex_byte, digit, number_after, wide, value, below, suffixed, hex_len, number_of, number, other, front}
-use Rattle.vale_syntax.specs.Print.{IsStamped}
+use Rattle.vale_syntax.specs.Tokens.{is_blank, is_stamp_byte, stamp_len, name_front, front_of_name, is_hex_byte, digit, number_after, wide_number, digits_value, number_front, number_by_suffix, hex_len, number_of, number, other_front, front}
+use Rattle.vale_syntax.specs.inner.Print.{IsStamped}
 use Rattle.vale_syntax.proofs.Lexing.{take_front, drop_front}
 
 -- what ends a name or number before it: the end, or a byte that stands in neither
@@ -121,21 +121,21 @@ or_true true b h = refl
 or_true false b h = absurd (false≢true h)
 
 -- a byte that begins a name is no blank and no digit
-letter_front : (b : ℕ) (bs : List ℕ) → is_letter_byte b ≡ true → front (b ∷ bs) ≡ named (b ∷ bs)
+letter_front : (b : ℕ) (bs : List ℕ) → is_letter_byte b ≡ true → front (b ∷ bs) ≡ front_of_name (b ∷ bs)
 letter_front b bs h =
     let big = letter_big b h in
-    ap (λ t. cond t (Skipped 1) (cond (is_digit_byte b) (number (b ∷ bs)) (cond (is_name_byte b) (named (b ∷ bs)) (other (b ∷ bs))))) (not_blank b (omega (arith, big)))
-    ∙ ap (λ t. cond t (number (b ∷ bs)) (cond (is_name_byte b) (named (b ∷ bs)) (other (b ∷ bs)))) (and_false (nat_le 48 b) _ (lt-leb b 57 (omega (arith, big))))
-    ∙ ap (λ t. cond t (named (b ∷ bs)) (other (b ∷ bs))) (or_true (is_letter_byte b) (is_digit_byte b) h)
+    ap (λ t. cond t (Skipped 1) (cond (is_digit_byte b) (number (b ∷ bs)) (cond (is_name_byte b) (front_of_name (b ∷ bs)) (other_front (b ∷ bs))))) (not_blank b (omega (arith, big)))
+    ∙ ap (λ t. cond t (number (b ∷ bs)) (cond (is_name_byte b) (front_of_name (b ∷ bs)) (other_front (b ∷ bs)))) (and_false (nat_le 48 b) _ (lt-leb b 57 (omega (arith, big))))
+    ∙ ap (λ t. cond t (front_of_name (b ∷ bs)) (other_front (b ∷ bs))) (or_true (is_letter_byte b) (is_digit_byte b) h)
 
 digit_front : (b : ℕ) (bs : List ℕ) → is_digit_byte b ≡ true → front (b ∷ bs) ≡ number (b ∷ bs)
 digit_front b bs h =
     let big = leb-true 48 b (and_parts _ _ h).0 in
-    ap (λ t. cond t (Skipped 1) (cond (is_digit_byte b) (number (b ∷ bs)) (cond (is_name_byte b) (named (b ∷ bs)) (other (b ∷ bs))))) (not_blank b (omega (arith, big)))
-    ∙ ap (λ t. cond t (number (b ∷ bs)) (cond (is_name_byte b) (named (b ∷ bs)) (other (b ∷ bs)))) h
+    ap (λ t. cond t (Skipped 1) (cond (is_digit_byte b) (number (b ∷ bs)) (cond (is_name_byte b) (front_of_name (b ∷ bs)) (other_front (b ∷ bs))))) (not_blank b (omega (arith, big)))
+    ∙ ap (λ t. cond t (number (b ∷ bs)) (cond (is_name_byte b) (front_of_name (b ∷ bs)) (other_front (b ∷ bs)))) h
 
 -- names
-named_is : (name rest : List ℕ) → list_all is_name_byte name ≡ true → Ends rest → named (name ++ rest) ≡ Taken kind.Name (length name)
+named_is : (name rest : List ℕ) → list_all is_name_byte name ≡ true → Ends rest → front_of_name (name ++ rest) ≡ Taken kind.Name (length name)
 named_is name rest h k =
     let n = run is_name_byte name rest h (ends_names rest k) in
     ap (λ n. name_front n (stamp_len (drop n (name ++ rest)))) n ∙ ap (name_front (length name)) (ap stamp_len (drop_front name rest) ∙ stamp_none rest k)
@@ -175,7 +175,7 @@ stamped_piece text rest s k = subst (λ t. front (t ++ rest) ≡ Taken kind.Stam
     by_name (b ∷ bs) h =
         let p = name_parts (b ∷ bs) h in
         letter_front b ((bs ++ 46 ∷ s.stamp) ++ rest) p.1
-        ∙ ap (λ l. named (b ∷ l)) (append_assoc bs (46 ∷ s.stamp) rest)
+        ∙ ap (λ l. front_of_name (b ∷ l)) (append_assoc bs (46 ∷ s.stamp) rest)
         ∙ ap (λ n. name_front n (stamp_len (drop n ((b ∷ bs) ++ (46 ∷ (s.stamp ++ rest)))))) (run is_name_byte (b ∷ bs) (46 ∷ (s.stamp ++ rest)) p.2 refl)
         ∙ ap (name_front (length (b ∷ bs))) (ap stamp_len (drop_front (b ∷ bs) (46 ∷ (s.stamp ++ rest))) ∙ stamp_is)
         ∙ stamp_front (length (b ∷ bs)) (length s.stamp)
@@ -256,25 +256,25 @@ hex_none (d ∷ e ∷ es) rest some h k =
     hex_second d e (es ++ rest) (below_differs e 120 (omega (arith, small)))
 
 -- the digits of a number, and what stands behind them
-number_piece : (n : ℕ) (rest : List ℕ) → n < 2 ^ 128 → Stops is_digit_byte rest → Stops (λ b. b == 120) rest → front (decimal n ++ rest) ≡ suffixed (Some n) (length (decimal n)) rest
+number_piece : (n : ℕ) (rest : List ℕ) → n < 2 ^ 128 → Stops is_digit_byte rest → Stops (λ b. b == 120) rest → front (decimal n ++ rest) ≡ number_by_suffix (Some n) (length (decimal n)) rest
 unfolding Numeral
 number_piece n rest h k l = by_digits (decimal n) (decimal_numeral n (omega (arith, h)))
   where
-    number_at : (ds : List ℕ) → hex_len (ds ++ rest) ≡ 0 → list_all is_digit_byte ds ≡ true → number_after 10 0 ds ≡ n → number (ds ++ rest) ≡ suffixed (Some n) (length ds) rest
+    number_at : (ds : List ℕ) → hex_len (ds ++ rest) ≡ 0 → list_all is_digit_byte ds ≡ true → number_after 10 0 ds ≡ n → number (ds ++ rest) ≡ number_by_suffix (Some n) (length ds) rest
     number_at ds none all is =
         ap (λ m. number_of m (ds ++ rest)) none
-        ∙ ap (λ m. suffixed (value 10 (take m (ds ++ rest))) m (drop m (ds ++ rest))) (run is_digit_byte ds rest all k)
-        ∙ ap (λ l. suffixed (value 10 l) (length ds) (drop (length ds) (ds ++ rest))) (take_front ds rest)
-        ∙ ap (λ l. suffixed (value 10 ds) (length ds) l) (drop_front ds rest)
-        ∙ ap (λ m. suffixed (wide m) (length ds) rest) is
-        ∙ ap (λ t. suffixed (cond t (Some n) None) (length ds) rest) (lt-ltb n (2 ^ 128) h)
+        ∙ ap (λ m. number_by_suffix (digits_value 10 (take m (ds ++ rest))) m (drop m (ds ++ rest))) (run is_digit_byte ds rest all k)
+        ∙ ap (λ l. number_by_suffix (digits_value 10 l) (length ds) (drop (length ds) (ds ++ rest))) (take_front ds rest)
+        ∙ ap (λ l. number_by_suffix (digits_value 10 ds) (length ds) l) (drop_front ds rest)
+        ∙ ap (λ m. number_by_suffix (wide_number m) (length ds) rest) is
+        ∙ ap (λ t. number_by_suffix (cond t (Some n) None) (length ds) rest) (lt-ltb n (2 ^ 128) h)
 
-    by_digits : (ds : List ℕ) → (list_all is_digit_byte ds ≡ true) × (number_after 10 0 ds ≡ n) × (1 ≤ length ds) → front (ds ++ rest) ≡ suffixed (Some n) (length ds) rest
+    by_digits : (ds : List ℕ) → (list_all is_digit_byte ds ≡ true) × (number_after 10 0 ds ≡ n) × (1 ≤ length ds) → front (ds ++ rest) ≡ number_by_suffix (Some n) (length ds) rest
     by_digits [] p = absurd (omega (arith, p.2))
     by_digits (d ∷ ds) p =
         digit_front d (ds ++ rest) (and_parts _ _ p.0).0 ∙ number_at (d ∷ ds) (hex_none (d ∷ ds) rest p.2 p.0 l) p.0 p.1
 
-below_is : (limit n len : ℕ) (k : ℕ → TokenKind) → n < limit → below limit k len (Some n) ≡ Taken (k n) len
+below_is : (limit n len : ℕ) (k : ℕ → TokenKind) → n < limit → number_front limit k len (Some n) ≡ Taken (k n) len
 below_is limit n len k h = ap (λ t. cond t (Taken (k n) len) (Stopped NumberTooLarge)) (lt-ltb n limit h)
 
 not_in_names : (b c : ℕ) → ends b ≡ true → is_name_byte c ≡ true → (b == c) ≡ false
@@ -290,12 +290,12 @@ unfolding Ends Stops
 ends_x [] h = tt
 ends_x (b ∷ bs) h = not_in_names b 120 h refl
 
-no_suffix : (n len : ℕ) (rest : List ℕ) → n < 2 ^ 127 → Ends rest → suffixed (Some n) len rest ≡ Taken (kind.Int n) len
+no_suffix : (n len : ℕ) (rest : List ℕ) → n < 2 ^ 127 → Ends rest → number_by_suffix (Some n) len rest ≡ Taken (kind.Int n) len
 unfolding Ends
 no_suffix n len [] h k = below_is (2 ^ 127) n len kind.Int h
 no_suffix n len (b ∷ bs) h k =
-    ap (λ t. cond t (below (2 ^ 64) kind.Word (len + 1) (Some n)) (cond (b == 118) (below (2 ^ 128) kind.Wide (len + 1) (Some n)) (below (2 ^ 127) kind.Int len (Some n)))) (not_in_names b 119 k refl)
-    ∙ ap (λ t. cond t (below (2 ^ 128) kind.Wide (len + 1) (Some n)) (below (2 ^ 127) kind.Int len (Some n))) (not_in_names b 118 k refl)
+    ap (λ t. cond t (number_front (2 ^ 64) kind.Word (len + 1) (Some n)) (cond (b == 118) (number_front (2 ^ 128) kind.Wide (len + 1) (Some n)) (number_front (2 ^ 127) kind.Int len (Some n)))) (not_in_names b 119 k refl)
+    ∙ ap (λ t. cond t (number_front (2 ^ 128) kind.Wide (len + 1) (Some n)) (number_front (2 ^ 127) kind.Int len (Some n))) (not_in_names b 118 k refl)
     ∙ below_is (2 ^ 127) n len kind.Int h
 
 pub int_piece : (n : ℕ) (rest : List ℕ) → n < 2 ^ 127 → Ends rest → front (decimal n ++ rest) ≡ Taken (kind.Int n) (length (decimal n))

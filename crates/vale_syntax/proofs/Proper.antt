@@ -13,8 +13,8 @@ use Rattle.vale_syntax.specs.declared.token.Front.{Front}
 use Rattle.vale_syntax.specs.declared.token.Front.TheVariants.{Skipped, Taken, Stopped}
 use Rattle.vale_syntax.specs.declared.token.NotAToken.TheVariants.{NumberTooLarge}
 use Rattle.vale_syntax.specs.declared.mark.Mark.{Mark}
-use Rattle.vale_syntax.specs.Tokens.{begins, is_blank, comment, close_len, is_stamp_byte, stamp_len, name_front, named, value, below, suffixed, hex_len, number_of, marks, mark_at, mark_front, other, front, Lexed, All, Nothing, with_token, token, on_front, lexed}
-use Rattle.vale_syntax.specs.Print.{IsStamped}
+use Rattle.vale_syntax.specs.Tokens.{begins, is_blank, comment, close_len, is_stamp_byte, stamp_len, name_front, front_of_name, digits_value, number_front, number_by_suffix, hex_len, number_of, marks, mark_at, mark_front, other_front, front, LexResult, All, Nothing, with_token, token_at, on_front, tokens_from}
+use Rattle.vale_syntax.specs.inner.Print.{IsStamped}
 
 -- a token's text and value are such as its kind says
 unfoldable pub IsProper : TokenKind → List ℕ → Type 0
@@ -38,12 +38,12 @@ either : (bytes : List ℕ) (t : Bool) (f g : Front) → (t ≡ true → FrontPr
 either bytes true f g h k = h refl
 either bytes false f g h k = k refl
 
-below_proper : (bytes : List ℕ) (limit len : ℕ) (k : ℕ → TokenKind) (n : Option ℕ) → ((m : ℕ) (text : List ℕ) → m < limit → IsProper (k m) text) → FrontProper bytes (below limit k len n)
+below_proper : (bytes : List ℕ) (limit len : ℕ) (k : ℕ → TokenKind) (n : Option ℕ) → ((m : ℕ) (text : List ℕ) → m < limit → IsProper (k m) text) → FrontProper bytes (number_front limit k len n)
 unfolding FrontProper
 below_proper bytes limit len k None h = tt
 below_proper bytes limit len k (Some n) h = either bytes (nat_lt n limit) (Taken (k n) len) (Stopped NumberTooLarge) (λ e. h n _ (ltb-true n limit e)) (λ e. tt)
 
-suffixed_proper : (bytes : List ℕ) (n : Option ℕ) (len : ℕ) (rest : List ℕ) → FrontProper bytes (suffixed n len rest)
+suffixed_proper : (bytes : List ℕ) (n : Option ℕ) (len : ℕ) (rest : List ℕ) → FrontProper bytes (number_by_suffix n len rest)
 unfolding IsProper
 suffixed_proper bytes n len [] = below_proper bytes (2 ^ 127) len kind.Int n (λ m t h. h)
 suffixed_proper bytes n len (b ∷ bs) =
@@ -51,8 +51,8 @@ suffixed_proper bytes n len (b ∷ bs) =
     (λ e. either bytes (b == 118) _ _ (λ e. below_proper bytes (2 ^ 128) (len + 1) kind.Wide n (λ m t h. h)) (λ e. below_proper bytes (2 ^ 127) len kind.Int n (λ m t h. h)))
 
 number_proper : (bytes whole : List ℕ) (m : ℕ) → FrontProper whole (number_of m bytes)
-number_proper bytes whole zero = suffixed_proper whole (value 10 (take (prefix_len is_digit_byte bytes) bytes)) (prefix_len is_digit_byte bytes) (drop (prefix_len is_digit_byte bytes) bytes)
-number_proper bytes whole (suc m) = suffixed_proper whole (value 16 (take (suc m) (drop 2 bytes))) (suc m + 2) (drop (suc m) (drop 2 bytes))
+number_proper bytes whole zero = suffixed_proper whole (digits_value 10 (take (prefix_len is_digit_byte bytes) bytes)) (prefix_len is_digit_byte bytes) (drop (prefix_len is_digit_byte bytes) bytes)
+number_proper bytes whole (suc m) = suffixed_proper whole (digits_value 16 (take (suc m) (drop 2 bytes))) (suc m + 2) (drop (suc m) (drop 2 bytes))
 
 -- the bytes that pass, from the front on, pass
 take_one : (n x : ℕ) (xs : List ℕ) → take (1 + n) (x ∷ xs) ≡ x ∷ take n xs
@@ -79,7 +79,7 @@ unfolding FrontProper
 comment_proper bytes None = tt
 comment_proper bytes (Some n) = tt
 
-other_proper : (bytes : List ℕ) → FrontProper bytes (other bytes)
+other_proper : (bytes : List ℕ) → FrontProper bytes (other_front bytes)
 unfolding FrontProper
 other_proper bytes =
     either bytes (begins (codes "//") bytes) _ _ (λ e. tt)
@@ -113,7 +113,7 @@ stamp_proper bytes name n (c ∷ cs) h t d = by_test ((c == 46) && nat_lt 0 (pre
         let p = and_parts _ _ e in
         subst (λ k. FrontProper bytes (name_front n k)) (sym (suc_of (prefix_len is_stamp_byte cs))) (stamped (prefix_len is_stamp_byte cs) refl (eqb-true c 46 p.0) (ltb-true 0 _ p.1))
 
-named_proper : (b : ℕ) (bs : List ℕ) → is_digit_byte b ≡ false → is_name_byte b ≡ true → FrontProper (b ∷ bs) (named (b ∷ bs))
+named_proper : (b : ℕ) (bs : List ℕ) → is_digit_byte b ≡ false → is_name_byte b ≡ true → FrontProper (b ∷ bs) (front_of_name (b ∷ bs))
 named_proper b bs h k = ap_length (ap (λ t. cond t (1 + prefix_len is_name_byte bs) 0) k) (by_stamp (drop (1 + prefix_len is_name_byte bs) (b ∷ bs)) refl)
   where
     or_first : (a c : Bool) → c ≡ false → (a || c) ≡ true → a ≡ true
@@ -142,8 +142,8 @@ front_proper (b ∷ bs) =
     (λ f. either (b ∷ bs) (is_name_byte b) _ _ (λ g. named_proper b bs f g) (λ g. other_proper (b ∷ bs))))
 
 -- all tokens of a text are
-lexed_proper : (file covered at : ℕ) (bytes : List ℕ) (ts : List Token) → lexed file covered at bytes ≡ All ts → AreProper ts
-unfolding lexed AreProper FrontProper
+lexed_proper : (file covered at : ℕ) (bytes : List ℕ) (ts : List Token) → tokens_from file covered at bytes ≡ All ts → AreProper ts
+unfolding tokens_from AreProper FrontProper
 lexed_proper file covered at [] ts h = subst (λ us. AllByRecursion (λ (t : Token). IsProper t.kind t.text) us) (same_all [] ts h) tt
   where
     same_all : (us ts : List Token) → All us ≡ All ts → us ≡ ts
@@ -151,17 +151,17 @@ lexed_proper file covered at [] ts h = subst (λ us. AllByRecursion (λ (t : Tok
 lexed_proper file (suc n) at (b ∷ bs) ts h = lexed_proper file n (at + 1) bs ts h
 lexed_proper file zero at (b ∷ bs) ts h = by_front (front (b ∷ bs)) (front_proper (b ∷ bs)) (λ n us e. lexed_proper file n (at + 1) bs us e) h
   where
-    taken_parts : (t : Token) (l : Lexed) → with_token t l ≡ All ts → (us : List Token) × (l ≡ All us) × (t ∷ us ≡ ts)
+    taken_parts : (t : Token) (l : LexResult) → with_token t l ≡ All ts → (us : List Token) × (l ≡ All us) × (t ∷ us ≡ ts)
     taken_parts t (All us) h = (us, refl, cc)
     taken_parts t (Nothing why at) h = absurd cc
 
-    by_front : (f : Front) → FrontProper (b ∷ bs) f → ((n : ℕ) (us : List Token) → lexed file n (at + 1) bs ≡ All us → AllByRecursion (λ (t : Token). IsProper t.kind t.text) us)
-        → on_front file at (b ∷ bs) f (λ n. lexed file n (at + 1) bs) ≡ All ts → AllByRecursion (λ (t : Token). IsProper t.kind t.text) ts
+    by_front : (f : Front) → FrontProper (b ∷ bs) f → ((n : ℕ) (us : List Token) → tokens_from file n (at + 1) bs ≡ All us → AllByRecursion (λ (t : Token). IsProper t.kind t.text) us)
+        → on_front file at (b ∷ bs) f (λ n. tokens_from file n (at + 1) bs) ≡ All ts → AllByRecursion (λ (t : Token). IsProper t.kind t.text) ts
     by_front (Skipped n) p go h = go (n - 1) ts h
     by_front (Taken k n) p go h =
-        let (us, e, f) = taken_parts (token file at k (take n (b ∷ bs))) (lexed file (n - 1) (at + 1) bs) h in
+        let (us, e, f) = taken_parts (token_at file at k (take n (b ∷ bs))) (tokens_from file (n - 1) (at + 1) bs) h in
         subst (λ us. AllByRecursion (λ (t : Token). IsProper t.kind t.text) us) f (p, go (n - 1) us e)
     by_front (Stopped why) p go h = absurd cc
 
-pub text_proper : (file : ℕ) (bytes : List ℕ) (ts : List Token) → lexed file 0 0 bytes ≡ All ts → AreProper ts
+pub text_proper : (file : ℕ) (bytes : List ℕ) (ts : List Token) → tokens_from file 0 0 bytes ≡ All ts → AreProper ts
 text_proper file bytes ts h = lexed_proper file 0 0 bytes ts h

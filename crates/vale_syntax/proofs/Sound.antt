@@ -14,8 +14,9 @@ use Rattle.vale_syntax.specs.declared.lookahead.Lookahead.TheVariants as see
 use Rattle.vale_syntax.specs.Operators.{rank_of, any, right_of, again_of}
 use Rattle.vale_syntax.specs.Peek.{peek, spot_of}
 use Rattle.vale_syntax.specs.Trees.{Ex, Exs, none, more, with_last, Int, Call, Index, Unary, Binary}
-use Rattle.vale_syntax.specs.Expressions.{name_of, leaf, negated, Spells, not_, negative, minus, postfix, operations, Chain, chain_end, operation, Indexed, index_end, index, Atom, token, call, brackets, Arguments, nothing, some, Others, others_end, next as Others_next}
-use Rattle.vale_syntax.specs.Parse.{Got, GotList, got, got_list, ◌>>=◌, operator, Parser, alone, bracketed, under, squared, others_by, others, arguments_by, arguments, named_by, atom_by, atom, indexed_by, indexed, minus_by, unary_by, unary, chain_by, chain, ranked, parse}
+use Rattle.vale_syntax.specs.Expressions.{name_of, leaf, minus_number, Spells, not_, negative, minus, postfix, operations, Chain, chain_end, operation, Indices, index_end, index, Atom, token, call, brackets, Arguments, no_arguments, some_arguments, Others, others_end, others_more as Others_next}
+use Rattle.vale_syntax.specs.Options.{◌>>=◌}
+use Rattle.vale_syntax.specs.inner.Parse.{Got, GotList, got, got_list, operator, Parser, leaf_parse, round_by, unary_node, square_by, others_by, others, arguments_by, arguments, name_by, atom_by, atom, indices_by, indices, minus_by, unary_by, unary, chain_by, chain, rank_parse, parse}
 
 pub bind_some : {A B : Type 0} (o : Option A) (f : A → Option B) (y : B) → (o >>= f) ≡ Some y → (x : A) × (o ≡ Some x) × (f x ≡ Some y)
 bind_some (Some x) f y h = (x, refl, h)
@@ -29,7 +30,7 @@ ChainTo : ℕ → ℕ → Spot → ℕ → Ex → List Token → Got → Type 0
 ChainTo b r s d x ts g = (g.height ≤ suc b) × Chain r s d x ts g.height g.tree g.rest
 
 IndexedTo : ℕ → Spot → ℕ → Ex → List Token → Got → Type 0
-IndexedTo b s d x ts g = (g.height ≤ suc b) × Indexed s d x ts g.height g.tree g.rest
+IndexedTo b s d x ts g = (g.height ≤ suc b) × Indices s d x ts g.height g.tree g.rest
 
 AtomTo : ℕ → List Token → Got → Type 0
 AtomTo b ts g = (g.height ≤ suc b) × Atom g.height ts g.tree g.rest
@@ -51,11 +52,11 @@ operator_is r (see.Mark (mark.Binary p)) o h = by_test (rank_of p == r) refl h
     by_test false e h = absurd cc
 operator_is r _ o h = absurd cc
 
-squared_is : (f : Lookahead) (o : Option Got) (g : Got) → squared f o ≡ Some g → (f ≡ see.Mark mark.SquareClose) × (o ≡ Some g)
+squared_is : (f : Lookahead) (o : Option Got) (g : Got) → square_by f o ≡ Some g → (f ≡ see.Mark mark.SquareClose) × (o ≡ Some g)
 squared_is (see.Mark mark.SquareClose) o g h = (refl, h)
 squared_is _ o g h = absurd cc
 
-bracketed_is : (f : Lookahead) (y g : Got) → bracketed f y ≡ Some g → (f ≡ see.Mark mark.RoundClose) × (got y.tree (suc y.height) (drop 1 y.rest) ≡ g)
+bracketed_is : (f : Lookahead) (y g : Got) → round_by f y ≡ Some g → (f ≡ see.Mark mark.RoundClose) × (got y.tree (suc y.height) (drop 1 y.rest) ≡ g)
 bracketed_is (see.Mark mark.RoundClose) y g h = (refl, same_Some _ g h)
 bracketed_is _ y g h = absurd cc
 
@@ -90,14 +91,14 @@ chain_sound sub b (suc n) r s d x ts g sound k h =
 
 index_step : (sub : Parser) (b : ℕ) (s : Spot) (d : ℕ) (x : Ex) (ts : List Token) (g : Got) (go : Got → Option Got) → IsSound b sub → d ≤ suc b
     → ((y : Got) → suc (max d y.height) ≤ suc b → go y ≡ Some g → IndexedTo b s (suc (max d y.height)) (Index s x y.tree) (drop 1 y.rest) g)
-    → (f : Lookahead) → peek ts ≡ f → indexed_by f b (got x d ts) (sub any (drop 1 ts) >>= λ y. squared (peek y.rest) (go y)) ≡ Some g → IndexedTo b s d x ts g
+    → (f : Lookahead) → peek ts ≡ f → indices_by f b (got x d ts) (sub any (drop 1 ts) >>= λ y. square_by (peek y.rest) (go y)) ≡ Some g → IndexedTo b s d x ts g
 unfolding IsSound IndexedTo
 index_step sub b s d x ts g go sound k next (see.Mark mark.SquareOpen) e h = by_room (nat_le d b) refl h
   where
-    by_room : (t : Bool) → nat_le d b ≡ t → cond t (sub any (drop 1 ts) >>= λ y. squared (peek y.rest) (go y)) None ≡ Some g → IndexedTo b s d x ts g
+    by_room : (t : Bool) → nat_le d b ≡ t → cond t (sub any (drop 1 ts) >>= λ y. square_by (peek y.rest) (go y)) None ≡ Some g → IndexedTo b s d x ts g
     by_room false l h = absurd cc
     by_room true l h =
-        let (y, p, q) = bind_some (sub any (drop 1 ts)) (λ y. squared (peek y.rest) (go y)) g h in
+        let (y, p, q) = bind_some (sub any (drop 1 ts)) (λ y. square_by (peek y.rest) (go y)) g h in
         let i = squared_is (peek y.rest) (go y) g q in
         let part = sound any (drop 1 ts) y p in
         let m = leb-true d b l in
@@ -106,11 +107,11 @@ index_step sub b s d x ts g go sound k next (see.Mark mark.SquareOpen) e h = by_
         (rest.0, index e part.1 i.0 rest.1)
 index_step sub b s d x ts g go sound k next _ e h = subst (IndexedTo b s d x ts) (same_Some (got x d ts) g h) (k, index_end)
 
-indexed_sound : (sub : Parser) (b n : ℕ) (s : Spot) (d : ℕ) (x : Ex) (ts : List Token) (g : Got) → IsSound b sub → d ≤ suc b → indexed sub b n s (got x d ts) ≡ Some g → IndexedTo b s d x ts g
-unfolding indexed IndexedTo
+indexed_sound : (sub : Parser) (b n : ℕ) (s : Spot) (d : ℕ) (x : Ex) (ts : List Token) (g : Got) → IsSound b sub → d ≤ suc b → indices sub b n s (got x d ts) ≡ Some g → IndexedTo b s d x ts g
+unfolding indices IndexedTo
 indexed_sound sub b zero s d x ts g sound k h = subst (IndexedTo b s d x ts) (same_Some (got x d ts) g h) (k, index_end)
 indexed_sound sub b (suc n) s d x ts g sound k h =
-    index_step sub b s d x ts g (λ y. indexed sub b n s (got (Index s x y.tree) (suc (max d y.height)) (drop 1 y.rest))) sound k
+    index_step sub b s d x ts g (λ y. indices sub b n s (got (Index s x y.tree) (suc (max d y.height)) (drop 1 y.rest))) sound k
     (λ y l e. indexed_sound sub b n s (suc (max d y.height)) (Index s x y.tree) (drop 1 y.rest) g sound l e) (peek ts) refl h
 
 others_step : (sub : Parser) (b d : ℕ) (xs : Exs) (ts : List Token) (g : GotList) (go : Got → Option GotList) → IsSound b sub → d ≤ b
@@ -135,19 +136,19 @@ others_sound sub b (suc n) d xs ts g sound k h =
 
 arguments_sound : (sub : Parser) (b : ℕ) (ts : List Token) (g : GotList) → IsSound b sub → (f : Lookahead) → peek ts ≡ f → arguments_by sub f ts ≡ Some g → ArgumentsTo b ts g
 unfolding IsSound ArgumentsTo OthersTo
-arguments_sound sub b ts g sound (see.Mark mark.RoundClose) e h = subst (ArgumentsTo b ts) (same_Some (got_list none 0 (drop 1 ts)) g h) (omega arith, nothing e)
+arguments_sound sub b ts g sound (see.Mark mark.RoundClose) e h = subst (ArgumentsTo b ts) (same_Some (got_list none 0 (drop 1 ts)) g h) (omega arith, no_arguments e)
 arguments_sound sub b ts g sound _ e h =
     let (y, p, q) = bind_some (sub any ts) (λ y. others sub (length ts) (more y.tree none) y.height y.rest) g h in
     let part = sound any ts y p in
     let rest = others_sound sub b (length ts) y.height (more y.tree none) y.rest g sound part.0 q in
-    (rest.0, some part.1 rest.1)
+    (rest.0, some_arguments part.1 rest.1)
 
-alone_sound : (b : ℕ) (ts : List Token) (g : Got) (o : Option Ex) → leaf ts ≡ o → alone o ts ≡ Some g → AtomTo b ts g
+alone_sound : (b : ℕ) (ts : List Token) (g : Got) (o : Option Ex) → leaf ts ≡ o → leaf_parse o ts ≡ Some g → AtomTo b ts g
 unfolding AtomTo
 alone_sound b ts g None e h = absurd cc
 alone_sound b ts g (Some x) e h = subst (AtomTo b ts) (same_Some (got x 1 (drop 1 ts)) g h) (omega arith, token e)
 
-named_sound : (sub : Parser) (b : ℕ) (ts : List Token) (g : Got) → IsSound b sub → peek ts ≡ see.Name → (f : Lookahead) → peek (drop 1 ts) ≡ f → named_by sub f ts ≡ Some g → AtomTo b ts g
+named_sound : (sub : Parser) (b : ℕ) (ts : List Token) (g : Got) → IsSound b sub → peek ts ≡ see.Name → (f : Lookahead) → peek (drop 1 ts) ≡ f → name_by sub f ts ≡ Some g → AtomTo b ts g
 unfolding AtomTo ArgumentsTo arguments
 named_sound sub b ts g sound p (see.Mark mark.RoundOpen) e h =
     let (y, q, i) = bind_some (arguments sub (drop 2 ts)) (λ y. Some (got (Call (name_of ts) y.trees) (suc y.height) y.rest)) g h in
@@ -159,7 +160,7 @@ named_sound sub b ts g sound p _ e h = alone_sound b ts g (leaf ts) refl h
 atom_sound : (sub : Parser) (b : ℕ) (ts : List Token) (g : Got) → IsSound b sub → (f : Lookahead) → peek ts ≡ f → atom_by sub f ts ≡ Some g → AtomTo b ts g
 unfolding AtomTo IsSound
 atom_sound sub b ts g sound (see.Mark mark.RoundOpen) e h =
-    let (y, p, q) = bind_some (sub any (drop 1 ts)) (λ y. bracketed (peek y.rest) y) g h in
+    let (y, p, q) = bind_some (sub any (drop 1 ts)) (λ y. round_by (peek y.rest) y) g h in
     let i = bracketed_is (peek y.rest) y g q in
     let part = sound any (drop 1 ts) y p in
     let n = part.0 in
@@ -167,11 +168,11 @@ atom_sound sub b ts g sound (see.Mark mark.RoundOpen) e h =
 atom_sound sub b ts g sound see.Name e h = named_sound sub b ts g sound e (peek (drop 1 ts)) refl h
 atom_sound sub b ts g sound _ e h = alone_sound b ts g (leaf ts) refl h
 
-minus_sound : (sub : Parser) (b : ℕ) (ts : List Token) (g : Got) → IsSound b sub → peek ts ≡ see.Mark (mark.Binary Sub) → (o : Option ℤ) → negated ts ≡ o → minus_by sub o ts ≡ Some g → UnaryTo b ts g
+minus_sound : (sub : Parser) (b : ℕ) (ts : List Token) (g : Got) → IsSound b sub → peek ts ≡ see.Mark (mark.Binary Sub) → (o : Option ℤ) → minus_number ts ≡ o → minus_by sub o ts ≡ Some g → UnaryTo b ts g
 unfolding UnaryTo IsSound
 minus_sound sub b ts g sound e (Some z) i h = subst (UnaryTo b ts) (same_Some (got (Int (spot_of ts) (neg_ℤ z)) 1 (drop 2 ts)) g h) (omega arith, negative e i)
 minus_sound sub b ts g sound e None i h =
-    let (y, p, q) = bind_some (sub 0 (drop 1 ts)) (under (spot_of ts) Neg) g h in
+    let (y, p, q) = bind_some (sub 0 (drop 1 ts)) (unary_node (spot_of ts) Neg) g h in
     let part = sound 0 (drop 1 ts) y p in
     let n = part.0 in
     subst (UnaryTo b ts) (same_Some (got (Unary (spot_of ts) Neg y.tree) (suc y.height) y.rest) g q) (omega (arith, n), minus e i part.1)
@@ -179,22 +180,22 @@ minus_sound sub b ts g sound e None i h =
 unary_sound : (sub : Parser) (b : ℕ) (ts : List Token) (g : Got) → IsSound b sub → (f : Lookahead) → peek ts ≡ f → unary_by sub b f ts ≡ Some g → UnaryTo b ts g
 unfolding UnaryTo AtomTo IndexedTo IsSound atom
 unary_sound sub b ts g sound (see.Mark mark.Bang) e h =
-    let (y, p, q) = bind_some (sub 0 (drop 1 ts)) (under (spot_of ts) Not) g h in
+    let (y, p, q) = bind_some (sub 0 (drop 1 ts)) (unary_node (spot_of ts) Not) g h in
     let part = sound 0 (drop 1 ts) y p in
     let n = part.0 in
     subst (UnaryTo b ts) (same_Some (got (Unary (spot_of ts) Not y.tree) (suc y.height) y.rest) g q) (omega (arith, n), not_ e part.1)
-unary_sound sub b ts g sound (see.Mark (mark.Binary Sub)) e h = minus_sound sub b ts g sound e (negated ts) refl h
+unary_sound sub b ts g sound (see.Mark (mark.Binary Sub)) e h = minus_sound sub b ts g sound e (minus_number ts) refl h
 unary_sound sub b ts g sound _ e h =
-    let (y, p, q) = bind_some (atom sub ts) (indexed sub b (suc b) (spot_of ts)) g h in
+    let (y, p, q) = bind_some (atom sub ts) (indices sub b (suc b) (spot_of ts)) g h in
     let a = atom_sound sub b ts y sound (peek ts) refl p in
     let i = indexed_sound sub b (suc b) (spot_of ts) y.height y.tree y.rest g sound a.0 q in
     (i.0, postfix a.1 i.1)
 
-ranked_sound : (sub : Parser) (b r : ℕ) (ts : List Token) (g : Got) → IsSound b sub → ranked sub b r ts ≡ Some g → (g.height ≤ suc b) × Spells r g.height ts g.tree g.rest
-unfolding ranked unary UnaryTo ChainTo
+ranked_sound : (sub : Parser) (b r : ℕ) (ts : List Token) (g : Got) → IsSound b sub → rank_parse sub b r ts ≡ Some g → (g.height ≤ suc b) × Spells r g.height ts g.tree g.rest
+unfolding rank_parse unary UnaryTo ChainTo
 ranked_sound sub b zero ts g sound h = unary_sound sub b ts g sound (peek ts) refl h
 ranked_sound sub b (suc r) ts g sound h =
-    let (y, p, q) = bind_some (ranked sub b r ts) (chain sub b (suc b) (suc r) (spot_of ts)) g h in
+    let (y, p, q) = bind_some (rank_parse sub b r ts) (chain sub b (suc b) (suc r) (spot_of ts)) g h in
     let part = ranked_sound sub b r ts y sound p in
     let rest = chain_sound sub b (suc b) (suc r) (spot_of ts) y.height y.tree y.rest g sound part.0 q in
     (rest.0, operations part.1 rest.1)

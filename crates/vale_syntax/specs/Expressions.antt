@@ -20,16 +20,16 @@ abbrev pub name_of : List Token → AName
 name_of ts = record { text = text_of ts; spot = spot_of ts }
 
 -- a whole number that a token may be
-abbrev pub whole : ℕ → Option ℤ
-whole n = if nat_lt n whole_limit then Some (pos n) else None
+abbrev pub whole_number : ℕ → Option ℤ
+whole_number n = if nat_lt n whole_limit then Some (pos n) else None
 
-abbrev pub whole_at : Spot → Option ℤ → Option Ex
-whole_at s None = None
-whole_at s (Some z) = Some (Int s z)
+abbrev pub whole_leaf : Spot → Option ℤ → Option Ex
+whole_leaf s None = None
+whole_leaf s (Some z) = Some (Int s z)
 
 -- the expression that a token is by itself
 abbrev pub leaf_by : Lookahead → List Token → Option Ex
-leaf_by (see.Int n) ts = whole_at (spot_of ts) (whole n)
+leaf_by (see.Int n) ts = whole_leaf (spot_of ts) (whole_number n)
 leaf_by (see.Word n) ts = Some (Word (spot_of ts) n)
 leaf_by (see.Wide n) ts = Some (Wide (spot_of ts) n)
 leaf_by (see.Keyword word.True) ts = Some (True (spot_of ts))
@@ -43,26 +43,26 @@ unfoldable pub leaf : List Token → Option Ex
 leaf ts = leaf_by (peek ts) ts
 
 -- behind a `-`: the number that directly follows, where no index is asked of it
-abbrev pub counted : Lookahead → Lookahead → Option ℤ
-counted (see.Int n) (see.Mark mark.SquareOpen) = None
-counted (see.Int n) _ = whole n
-counted _ _ = None
+abbrev pub minus_number_by : Lookahead → Lookahead → Option ℤ
+minus_number_by (see.Int n) (see.Mark mark.SquareOpen) = None
+minus_number_by (see.Int n) _ = whole_number n
+minus_number_by _ _ = None
 
 -- the number that a `-` makes negative
-unfoldable pub negated : List Token → Option ℤ
-negated ts = counted (peek (drop 1 ts)) (peek (drop 2 ts))
+unfoldable pub minus_number : List Token → Option ℤ
+minus_number ts = minus_number_by (peek (drop 1 ts)) (peek (drop 2 ts))
 
 mutual
   -- `Spells rank depth ts x rest`: ts begins with x, in which operators outside of brackets have at most this rank
   pub data Spells : ℕ → ℕ → List Token → Ex → List Token → Type 0 where
     not_ : {d : ℕ} {ts : List Token} {x : Ex} {rest : List Token} → peek ts ≡ see.Mark mark.Bang
         → Spells 0 d (drop 1 ts) x rest → Spells 0 (suc d) ts (Unary (spot_of ts) Not x) rest
-    negative : {z : ℤ} {ts : List Token} → peek ts ≡ see.Mark (mark.Binary Sub) → negated ts ≡ Some z
+    negative : {z : ℤ} {ts : List Token} → peek ts ≡ see.Mark (mark.Binary Sub) → minus_number ts ≡ Some z
         → Spells 0 1 ts (Int (spot_of ts) (neg_ℤ z)) (drop 2 ts)
-    minus : {d : ℕ} {ts : List Token} {x : Ex} {rest : List Token} → peek ts ≡ see.Mark (mark.Binary Sub) → negated ts ≡ None
+    minus : {d : ℕ} {ts : List Token} {x : Ex} {rest : List Token} → peek ts ≡ see.Mark (mark.Binary Sub) → minus_number ts ≡ None
         → Spells 0 d (drop 1 ts) x rest → Spells 0 (suc d) ts (Unary (spot_of ts) Neg x) rest
     postfix : {d e : ℕ} {ts mid : List Token} {x y : Ex} {rest : List Token}
-        → Atom d ts x mid → Indexed (spot_of ts) d x mid e y rest → Spells 0 e ts y rest
+        → Atom d ts x mid → Indices (spot_of ts) d x mid e y rest → Spells 0 e ts y rest
     operations : {r d e : ℕ} {ts mid : List Token} {x y : Ex} {rest : List Token}
         → Spells r d ts x mid → Chain (suc r) (spot_of ts) d x mid e y rest → Spells (suc r) e ts y rest
 
@@ -74,11 +74,11 @@ mutual
         → Chain (again_of o) s (suc (max d e)) (Binary s o x y) mid f z rest → Chain r s d x ts f z rest
 
   -- behind x, indices in square brackets
-  pub data Indexed : Spot → ℕ → Ex → List Token → ℕ → Ex → List Token → Type 0 where
-    index_end : {s : Spot} {d : ℕ} {x : Ex} {ts : List Token} → Indexed s d x ts d x ts
+  pub data Indices : Spot → ℕ → Ex → List Token → ℕ → Ex → List Token → Type 0 where
+    index_end : {s : Spot} {d : ℕ} {x : Ex} {ts : List Token} → Indices s d x ts d x ts
     index : {s : Spot} {d : ℕ} {x : Ex} {ts mid : List Token} {e f : ℕ} {i z : Ex} {rest : List Token}
         → peek ts ≡ see.Mark mark.SquareOpen → Spells any e (drop 1 ts) i mid → peek mid ≡ see.Mark mark.SquareClose
-        → Indexed s (suc (max d e)) (Index s x i) (drop 1 mid) f z rest → Indexed s d x ts f z rest
+        → Indices s (suc (max d e)) (Index s x i) (drop 1 mid) f z rest → Indices s d x ts f z rest
 
   pub data Atom : ℕ → List Token → Ex → List Token → Type 0 where
     token : {ts : List Token} {x : Ex} → leaf ts ≡ Some x → Atom 1 ts x (drop 1 ts)
@@ -89,14 +89,14 @@ mutual
 
   -- what stands in the round brackets of a call, the closing one included
   pub data Arguments : ℕ → List Token → Exs → List Token → Type 0 where
-    nothing : {ts : List Token} → peek ts ≡ see.Mark mark.RoundClose → Arguments 0 ts none (drop 1 ts)
-    some : {d e : ℕ} {ts mid : List Token} {x : Ex} {xs : Exs} {rest : List Token}
+    no_arguments : {ts : List Token} → peek ts ≡ see.Mark mark.RoundClose → Arguments 0 ts none (drop 1 ts)
+    some_arguments : {d e : ℕ} {ts mid : List Token} {x : Ex} {xs : Exs} {rest : List Token}
         → Spells any d ts x mid → Others d (more x none) mid e xs rest → Arguments e ts xs rest
 
   -- behind some arguments, the others
   pub data Others : ℕ → Exs → List Token → ℕ → Exs → List Token → Type 0 where
     others_end : {d : ℕ} {xs : Exs} {ts : List Token} → peek ts ≡ see.Mark mark.RoundClose → Others d xs ts d xs (drop 1 ts)
-    next : {d e f : ℕ} {xs ys : Exs} {y : Ex} {ts mid rest : List Token}
+    others_more : {d e f : ℕ} {xs ys : Exs} {y : Ex} {ts mid rest : List Token}
         → peek ts ≡ see.Mark mark.Comma → Spells any e (drop 1 ts) y mid
         → Others (max d e) (with_last xs y) mid f ys rest → Others d xs ts f ys rest
 

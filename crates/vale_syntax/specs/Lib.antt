@@ -3,9 +3,8 @@ pub mod Expressions
 pub mod inner
 pub mod Lists
 pub mod Operators
-pub mod Parse
+pub mod Options
 pub mod Peek
-pub mod Print
 pub mod Programs
 pub mod Statements
 pub mod Tokens

@@ -9,12 +9,12 @@ use Rattle.vale_syntax.specs.declared.spot.Spot.{Spot}
 use Rattle.vale_syntax.specs.declared.lookahead.Lookahead.{Lookahead}
 use Rattle.vale_syntax.specs.declared.lookahead.Lookahead.TheVariants.{End, Name, Stamped, Int, Word, Wide, Keyword, Mark}
 
-abbrev pub named : Option AKeyword → Lookahead
-named None = Name
-named (Some k) = Keyword k
+abbrev pub name_or_keyword : Option AKeyword → Lookahead
+name_or_keyword None = Name
+name_or_keyword (Some k) = Keyword k
 
 abbrev pub of_kind : TokenKind → List ℕ → Lookahead
-of_kind kind.Name text = named (keyword_of text)
+of_kind kind.Name text = name_or_keyword (keyword_of text)
 of_kind kind.Stamped text = Stamped
 of_kind (kind.Int n) text = Int n
 of_kind (kind.Word n) text = Word n

@@ -17,8 +17,8 @@ use Rattle.vale_syntax.specs.Operators.{any}
 use Rattle.vale_syntax.specs.Peek.{peek, text_of, spot_of}
 use Rattle.vale_syntax.specs.Trees.{Ex}
 use Rattle.vale_syntax.specs.Expressions.{name_of, depth_limit, Spells}
-use Rattle.vale_syntax.specs.Programs.{Ar, Memory, Value, St, Sts, no_sts, more_sts, Arm, no_arm, arm, Call, Assert, Ghost, Assign, If, While, InlineIf, LSt, LSts, no_lsts, more_lsts, LArm, no_larm, larm, LCall, LAssert, LIf}
-use Rattle.vale_syntax.specs.Lists.{Closed, Separated, Many}
+use Rattle.vale_syntax.specs.Programs.{Ar, Memory, Value, St, Sts, no_sts, more_sts, Arm, no_arm, arm, CallStatement, Assert, Ghost, Assign, If, While, InlineIf, LSt, LSts, no_lsts, more_lsts, LArm, no_larm, larm, LCall, LAssert, LIf}
+use Rattle.vale_syntax.specs.Lists.{ClosedList, CommaList, Many}
 
 -- the tokens before those that are left
 abbrev pub tokens_before : List Token → List Token → List Token
@@ -64,7 +64,7 @@ lsts_last (more_lsts x xs) y = more_lsts x (lsts_last xs y)
 pub data Argument : List Token → Ar → List Token → Type 0 where
   memory : {ts mid rest : List Token} {i : Ex} {a : List Ex} → peek ts ≡ see.Name → peek (drop 1 ts) ≡ see.Mark mark.SquareOpen → Expression (drop 2 ts) i mid
       → peek mid ≡ see.Mark mark.SquareClose → peek (drop 1 mid) ≡ see.Mark mark.At → peek (drop 2 mid) ≡ see.Mark mark.RoundOpen
-      → Separated Expression (drop 3 mid) a rest → peek rest ≡ see.Mark mark.RoundClose → Argument ts (Memory (name_of ts) i a) (drop 1 rest)
+      → CommaList Expression (drop 3 mid) a rest → peek rest ≡ see.Mark mark.RoundClose → Argument ts (Memory (name_of ts) i a) (drop 1 rest)
   value : {ts rest : List Token} {x : Ex} → Expression ts x rest → Argument ts (Value x) rest
 
 -- `invariant p;`
@@ -73,12 +73,12 @@ pub data Invariant : List Token → Ex → List Token → Type 0 where
 
 -- the statements that have none inside
 pub data Simple : List Token → St → List Token → Type 0 where
-  call : {ts mid : List Token} {a : List Ar} → peek ts ≡ see.Name → peek (drop 1 ts) ≡ see.Mark mark.RoundOpen → Closed Argument (drop 2 ts) a mid → peek mid ≡ see.Mark mark.Semicolon
-      → Simple ts (Call (name_of ts) a) (drop 1 mid)
-  assert_ : {ts mid : List Token} {x : Ex} → peek ts ≡ see.Keyword word.Assert → Expression (drop 1 ts) x mid → peek mid ≡ see.Mark mark.Semicolon → Simple ts (Assert (spot_of ts) x) (drop 1 mid)
-  ghost_ : {ts mid : List Token} {s : SortName} {x : Ex} → peek ts ≡ see.Keyword word.Ghost → peek (drop 1 ts) ≡ see.Name → peek (drop 2 ts) ≡ see.Mark mark.Colon → sort_at (drop 3 ts) ≡ Some s
+  simple_call : {ts mid : List Token} {a : List Ar} → peek ts ≡ see.Name → peek (drop 1 ts) ≡ see.Mark mark.RoundOpen → ClosedList Argument (drop 2 ts) a mid → peek mid ≡ see.Mark mark.Semicolon
+      → Simple ts (CallStatement (name_of ts) a) (drop 1 mid)
+  simple_assert : {ts mid : List Token} {x : Ex} → peek ts ≡ see.Keyword word.Assert → Expression (drop 1 ts) x mid → peek mid ≡ see.Mark mark.Semicolon → Simple ts (Assert (spot_of ts) x) (drop 1 mid)
+  simple_ghost : {ts mid : List Token} {s : SortName} {x : Ex} → peek ts ≡ see.Keyword word.Ghost → peek (drop 1 ts) ≡ see.Name → peek (drop 2 ts) ≡ see.Mark mark.Colon → sort_at (drop 3 ts) ≡ Some s
       → peek (drop 4 ts) ≡ see.Mark mark.Equals → Expression (drop 5 ts) x mid → peek mid ≡ see.Mark mark.Semicolon → Simple ts (Ghost (spot_of ts) (name_of (drop 1 ts)) s x) (drop 1 mid)
-  assign : {ts mid : List Token} {x : Ex} → peek ts ≡ see.Name → peek (drop 1 ts) ≡ see.Mark mark.Assign → Expression (drop 2 ts) x mid → peek mid ≡ see.Mark mark.Semicolon
+  simple_assign : {ts mid : List Token} {x : Ex} → peek ts ≡ see.Name → peek (drop 1 ts) ≡ see.Mark mark.Assign → Expression (drop 2 ts) x mid → peek mid ≡ see.Mark mark.Semicolon
       → Simple ts (Assign (name_of ts) x) (drop 1 mid)
 
 -- `(t)`
@@ -103,17 +103,17 @@ mutual
 
   -- behind some statements, the others
   pub data Body : ℕ → Sts → List Token → ℕ → Sts → List Token → Type 0 where
-    ended : {d : ℕ} {xs : Sts} {ts : List Token} → Body d xs ts d xs ts
-    further : {d e f : ℕ} {xs ys : Sts} {y : St} {ts mid rest : List Token} → Statement e ts y mid → Body (max d e) (sts_last xs y) mid f ys rest → Body d xs ts f ys rest
+    statements_end : {d : ℕ} {xs : Sts} {ts : List Token} → Body d xs ts d xs ts
+    statements_next : {d e f : ℕ} {xs ys : Sts} {y : St} {ts mid rest : List Token} → Statement e ts y mid → Body (max d e) (sts_last xs y) mid f ys rest → Body d xs ts f ys rest
 
   pub data Else : ℕ → List Token → Arm → List Token → Type 0 where
-    absent : {ts : List Token} → Else 0 ts no_arm ts
-    present : {d : ℕ} {ts rest : List Token} {xs : Sts} → peek ts ≡ see.Keyword word.Else → Block d (drop 1 ts) xs rest → Else d ts (arm xs) rest
+    no_else : {ts : List Token} → Else 0 ts no_arm ts
+    some_else : {d : ℕ} {ts rest : List Token} {xs : Sts} → peek ts ≡ see.Keyword word.Else → Block d (drop 1 ts) xs rest → Else d ts (arm xs) rest
 
 mutual
   -- the same for lemmas
   pub data LStatement : ℕ → List Token → LSt → List Token → Type 0 where
-    lcall : {ts mid : List Token} {a : List Ex} → peek ts ≡ see.Name → peek (drop 1 ts) ≡ see.Mark mark.RoundOpen → Closed Expression (drop 2 ts) a mid → peek mid ≡ see.Mark mark.Semicolon
+    lcall : {ts mid : List Token} {a : List Ex} → peek ts ≡ see.Name → peek (drop 1 ts) ≡ see.Mark mark.RoundOpen → ClosedList Expression (drop 2 ts) a mid → peek mid ≡ see.Mark mark.Semicolon
         → LStatement 1 ts (LCall (name_of ts) a) (drop 1 mid)
     lassert : {ts mid : List Token} {x : Ex} → peek ts ≡ see.Keyword word.Assert → Expression (drop 1 ts) x mid → peek mid ≡ see.Mark mark.Semicolon → LStatement 1 ts (LAssert (spot_of ts) x) (drop 1 mid)
     lif : {d e : ℕ} {ts a b rest : List Token} {t : Ex} {xs : LSts} {y : LArm} → peek ts ≡ see.Keyword word.If → Test (drop 1 ts) t a → LBlock d a xs b → LElse e b y rest
@@ -123,12 +123,12 @@ mutual
     lblock : {d : ℕ} {ts mid : List Token} {xs : LSts} → peek ts ≡ see.Mark mark.BraceOpen → LBody 0 no_lsts (drop 1 ts) d xs mid → peek mid ≡ see.Mark mark.BraceClose → LBlock d ts xs (drop 1 mid)
 
   pub data LBody : ℕ → LSts → List Token → ℕ → LSts → List Token → Type 0 where
-    lended : {d : ℕ} {xs : LSts} {ts : List Token} → LBody d xs ts d xs ts
-    lfurther : {d e f : ℕ} {xs ys : LSts} {y : LSt} {ts mid rest : List Token} → LStatement e ts y mid → LBody (max d e) (lsts_last xs y) mid f ys rest → LBody d xs ts f ys rest
+    lstatements_end : {d : ℕ} {xs : LSts} {ts : List Token} → LBody d xs ts d xs ts
+    lstatements_next : {d e f : ℕ} {xs ys : LSts} {y : LSt} {ts mid rest : List Token} → LStatement e ts y mid → LBody (max d e) (lsts_last xs y) mid f ys rest → LBody d xs ts f ys rest
 
   pub data LElse : ℕ → List Token → LArm → List Token → Type 0 where
-    labsent : {ts : List Token} → LElse 0 ts no_larm ts
-    lpresent : {d : ℕ} {ts rest : List Token} {xs : LSts} → peek ts ≡ see.Keyword word.Else → LBlock d (drop 1 ts) xs rest → LElse d ts (larm xs) rest
+    no_lelse : {ts : List Token} → LElse 0 ts no_larm ts
+    some_lelse : {d : ℕ} {ts rest : List Token} {xs : LSts} → peek ts ≡ see.Keyword word.Else → LBlock d (drop 1 ts) xs rest → LElse d ts (larm xs) rest
 
 -- no statement is deeper
 abbrev pub statement_limit : ℕ

@@ -46,8 +46,8 @@ abbrev pub name_front : ℕ → ℕ → Front
 name_front n zero = Taken Name n
 name_front n (suc m) = Taken Stamped (n + suc m)
 
-abbrev pub named : List ℕ → Front
-named bytes = let n = prefix_len is_name_byte bytes in name_front n (stamp_len (drop n bytes))
+abbrev pub front_of_name : List ℕ → Front
+front_of_name bytes = let n = prefix_len is_name_byte bytes in name_front n (stamp_len (drop n bytes))
 
 abbrev pub is_hex_byte : ℕ → Bool
 is_hex_byte b = is_digit_byte b || (nat_le 97 b && nat_le b 102) || (nat_le 65 b && nat_le b 70)
@@ -72,33 +72,33 @@ word_limit = 2 ^ 64
 abbrev pub wide_limit : ℕ
 wide_limit = 2 ^ 128
 
-abbrev pub wide : ℕ → Option ℕ
-wide n = if nat_lt n wide_limit then Some n else None
+abbrev pub wide_number : ℕ → Option ℕ
+wide_number n = if nat_lt n wide_limit then Some n else None
 
 -- the number that digits write, where some kind of number may be so large
-abbrev pub value : ℕ → List ℕ → Option ℕ
-value radix digits = wide (number_after radix 0 digits)
+abbrev pub digits_value : ℕ → List ℕ → Option ℕ
+digits_value radix digits = wide_number (number_after radix 0 digits)
 
 -- the number of a kind, with its length, or too large
-abbrev pub below : ℕ → (ℕ → TokenKind) → ℕ → Option ℕ → Front
-below limit kind len None = Stopped NumberTooLarge
-below limit kind len (Some n) = if nat_lt n limit then Taken (kind n) len else Stopped NumberTooLarge
+abbrev pub number_front : ℕ → (ℕ → TokenKind) → ℕ → Option ℕ → Front
+number_front limit kind len None = Stopped NumberTooLarge
+number_front limit kind len (Some n) = if nat_lt n limit then Taken (kind n) len else Stopped NumberTooLarge
 
 -- a number of some length, by what follows
-abbrev pub suffixed : Option ℕ → ℕ → List ℕ → Front
-suffixed n len [] = below whole_limit Int len n
-suffixed n len (b ∷ bs) =
-    if b == 119 then below word_limit Word (len + 1) n
-    else if b == 118 then below wide_limit Wide (len + 1) n
-    else below whole_limit Int len n
+abbrev pub number_by_suffix : Option ℕ → ℕ → List ℕ → Front
+number_by_suffix n len [] = number_front whole_limit Int len n
+number_by_suffix n len (b ∷ bs) =
+    if b == 119 then number_front word_limit Word (len + 1) n
+    else if b == 118 then number_front wide_limit Wide (len + 1) n
+    else number_front whole_limit Int len n
 
 -- the hexadecimal digits behind `0x`
 abbrev pub hex_len : List ℕ → ℕ
 hex_len bytes = if begins (codes "0x") bytes then prefix_len is_hex_byte (drop 2 bytes) else 0
 
 abbrev pub number_of : ℕ → List ℕ → Front
-number_of zero bytes = let n = prefix_len is_digit_byte bytes in suffixed (value 10 (take n bytes)) n (drop n bytes)
-number_of (suc m) bytes = suffixed (value 16 (take (suc m) (drop 2 bytes))) (suc m + 2) (drop (suc m) (drop 2 bytes))
+number_of zero bytes = let n = prefix_len is_digit_byte bytes in number_by_suffix (digits_value 10 (take n bytes)) n (drop n bytes)
+number_of (suc m) bytes = number_by_suffix (digits_value 16 (take (suc m) (drop 2 bytes))) (suc m + 2) (drop (suc m) (drop 2 bytes))
 
 abbrev pub number : List ℕ → Front
 number bytes = number_of (hex_len bytes) bytes
@@ -137,17 +137,12 @@ marks =
 abbrev pub mark_at : List (List ℕ × AMark) → List ℕ → Option (List ℕ × AMark)
 mark_at ms bytes = find (λ m. begins m.0 bytes) ms
 
--- the length of a mark that was found
-abbrev pub mark_len : Option (List ℕ × AMark) → ℕ
-mark_len None = 0
-mark_len (Some m) = length m.0
-
 abbrev pub mark_front : Option (List ℕ × AMark) → Front
 mark_front None = Stopped BadByte
 mark_front (Some m) = Taken (Mark m.1) (length m.0)
 
-abbrev pub other : List ℕ → Front
-other bytes =
+abbrev pub other_front : List ℕ → Front
+other_front bytes =
     if begins (codes "//") bytes then Skipped (prefix_len is_in_line bytes)
     else if begins (codes "/*") bytes then comment (close_len (drop 2 bytes))
     else mark_front (mark_at marks bytes)
@@ -158,30 +153,30 @@ front [] = Stopped BadByte
 front (b ∷ bs) =
     if is_blank b then Skipped 1
     else if is_digit_byte b then number (b ∷ bs)
-    else if is_name_byte b then named (b ∷ bs)
-    else other (b ∷ bs)
+    else if is_name_byte b then front_of_name (b ∷ bs)
+    else other_front (b ∷ bs)
 
 -- the tokens of a text, or the first place without one and its kind
-pub data Lexed : Type 0 where
-  All : List Token → Lexed
-  Nothing : NotAToken → ℕ → Lexed
+pub data LexResult : Type 0 where
+  All : List Token → LexResult
+  Nothing : NotAToken → ℕ → LexResult
 
-abbrev pub with_token : Token → Lexed → Lexed
+abbrev pub with_token : Token → LexResult → LexResult
 with_token t (All ts) = All (t ∷ ts)
 with_token t (Nothing why at) = Nothing why at
 
 -- a token of the first bytes, at an offset of a file
-abbrev pub token : ℕ → ℕ → TokenKind → List ℕ → Token
-token file at kind text = record { kind = kind; text = text; spot = record { file = file; at = at } }
+abbrev pub token_at : ℕ → ℕ → TokenKind → List ℕ → Token
+token_at file at kind text = record { kind = kind; text = text; spot = record { file = file; at = at } }
 
 -- what stands at the front, and what is behind it: `go n` goes on where n more bytes belong to it
-abbrev pub on_front : ℕ → ℕ → List ℕ → Front → (ℕ → Lexed) → Lexed
+abbrev pub on_front : ℕ → ℕ → List ℕ → Front → (ℕ → LexResult) → LexResult
 on_front file at bytes (Skipped n) go = go (n - 1)
-on_front file at bytes (Taken kind n) go = with_token (token file at kind (take n bytes)) (go (n - 1))
+on_front file at bytes (Taken kind n) go = with_token (token_at file at kind (take n bytes)) (go (n - 1))
 on_front file at bytes (Stopped why) go = Nothing why at
 
 -- The tokens of the bytes of a file from an offset on, of which so many still belong to what was taken before.
-unfoldable pub lexed : ℕ → ℕ → ℕ → List ℕ → Lexed
-lexed file covered at [] = All []
-lexed file (suc n) at (b ∷ bs) = lexed file n (at + 1) bs
-lexed file zero at (b ∷ bs) = on_front file at (b ∷ bs) (front (b ∷ bs)) (λ n. lexed file n (at + 1) bs)
+unfoldable pub tokens_from : ℕ → ℕ → ℕ → List ℕ → LexResult
+tokens_from file covered at [] = All []
+tokens_from file (suc n) at (b ∷ bs) = tokens_from file n (at + 1) bs
+tokens_from file zero at (b ∷ bs) = on_front file at (b ∷ bs) (front (b ∷ bs)) (λ n. tokens_from file n (at + 1) bs)

@@ -2,13 +2,14 @@
 
 ghost use Rattle.std.specs.Prelude.{◌≡◌, ◌≤◌, true, List, [], ℕ, length, map, Some};
 ghost use Rattle.std.specs.List.{AllByRecursion};
-ghost use Rattle.vale_syntax.specs.Tokens.{begins, marks, mark_at, mark_len};
+ghost use Rattle.vale_syntax.specs.Tokens.{begins, marks, mark_at};
+ghost use Rattle.vale_syntax.specs.inner.Marks.{mark_len};
 ghost use Rattle.vale_syntax.specs.declared.token.Token.{Token};
 ghost use Rattle.vale_syntax.specs.Operators.{any};
 ghost use Rattle.vale_syntax.specs.Trees.{Ex};
 ghost use Rattle.vale_syntax.specs.Expressions.{Spells, IsExpr};
-ghost use Rattle.vale_syntax.specs.Parse.{read};
-ghost use Rattle.vale_syntax.specs.Print.{text, IsWritable, IsTextOf};
+ghost use Rattle.vale_syntax.specs.inner.Parse.{whole_parse};
+ghost use Rattle.vale_syntax.specs.inner.Print.{text, IsWritable, IsTextOf};
 
 use crate::mark::MARKS;
 
@@ -30,8 +31,8 @@ pub fn spelled_once()
 
 /// What is read by looking ahead is what the tokens spell.
 pub fn read_as_spelled()
-    ensures sound { (ts : List Token) (x : Ex) → read ts ≡ Some x → IsExpr ts x }
-    ensures complete { (ts : List Token) (x : Ex) → IsExpr ts x → read ts ≡ Some x }
+    ensures sound { (ts : List Token) (x : Ex) → whole_parse ts ≡ Some x → IsExpr ts x }
+    ensures complete { (ts : List Token) (x : Ex) → IsExpr ts x → whole_parse ts ≡ Some x }
 {}
 
 /// The expressions that some text spells, places aside, are the writable ones, and what each is printed as spells it.

@@ -1,8 +1,8 @@
 // The text of an expression.
 
 ghost use Rattle.std.specs.Prelude.{◌≡◌, ◌++◌, ℕ, true, map, codes, IfOk, OnOk};
-ghost use Rattle.vale_syntax.specs.Trees.{tree, exs};
-ghost use Rattle.vale_syntax.specs.Print.{binary_text, unary_text, is_operand, separator, text, list_text, operand_text, IsWritable, IsTextOf};
+ghost use Rattle.vale_syntax.specs.inner.CodeTrees.{tree, exs};
+ghost use Rattle.vale_syntax.specs.inner.Print.{binary_text, unary_text, is_operand, separator, text, list_text, operand_text, IsWritable, IsTextOf};
 
 use crate::expr::Expr;
 use crate::laws::printed_as_spelled;
@@ -59,7 +59,7 @@ impl UnaryOp {
 }
 
 #[cycle(print)]
-#[tactic(auto, unfolding(crate::specs::Print::text))]
+#[tactic(auto, unfolding(crate::specs::inner::Print::text))]
 fn push_expr(out: &mut Vec<u8>, e: &Expr) -> Result<(), NoMemory>
     ensures { OnOk result (out.new.items ≡ out.old.items ++ text (tree e.now)) }
 {
@@ -117,7 +117,7 @@ fn push_operand(out: &mut Vec<u8>, e: &Expr) -> Result<(), NoMemory>
 }
 
 #[cycle(print)]
-#[tactic(auto, unfolding(crate::specs::Print::list_text))]
+#[tactic(auto, unfolding(crate::specs::inner::Print::list_text))]
 fn push_list(out: &mut Vec<u8>, list: &[Expr]) -> Result<(), NoMemory>
     ensures { OnOk result (out.new.items ≡ out.old.items ++ list_text true (exs (map tree list.now))) }
 {

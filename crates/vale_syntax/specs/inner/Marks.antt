@@ -1,5 +1,5 @@
--- Which mark a token is.
-use Rattle.std.specs.Prelude.{Bool, true, false}
+-- Which mark a token is, and the lengths of marks.
+use Rattle.std.specs.Prelude.{ℕ, Bool, true, false, List, length, Option, Some, None}
 use Rattle.vale_syntax.specs.declared.mark.Mark.{Mark}
 use Rattle.vale_syntax.specs.declared.mark.Mark.TheVariants as mark
 use Rattle.vale_syntax.specs.declared.lookahead.Lookahead.{Lookahead}
@@ -25,3 +25,8 @@ mark_eq _ _ = false
 abbrev pub is_mark : Mark → Lookahead → Bool
 is_mark m (see.Mark n) = mark_eq m n
 is_mark m _ = false
+
+-- the length of a mark that was found
+abbrev pub mark_len : Option (List ℕ × Mark) → ℕ
+mark_len None = 0
+mark_len (Some m) = length m.0

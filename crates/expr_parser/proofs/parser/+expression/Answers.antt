@@ -1,8 +1,8 @@
 use Rattle.std.proofs.Common.{◌≡◌, ◌<◌, ℕ, suc, ◌+◌, ◌-◌, max, refl, sym, ◌∙◌, ap, arith}
 use Rattle.vale_syntax.specs.declared.mark.Mark.TheVariants as mark
 use Rattle.vale_syntax.specs.Peek.{peek}
-use Rattle.vale_syntax.specs.Parse.{Got, GotList, others, parse}
-use Rattle.expr_parser.specs.Reads.{view, view_list}
+use Rattle.vale_syntax.specs.inner.Parse.{Got, GotList, others, parse}
+use Rattle.expr_parser.specs.inner.Reads.{view, view_list}
 use Rattle.vale_syntax.proofs.MarkTests.{peek_is}
 use Rattle.vale_syntax.proofs.Faults.{passed_on}
 use Rattle.expr_parser.proofs.Marks.{not_indexed, not_squared, no_others}

@@ -1,6 +1,6 @@
 use Rattle.std.proofs.Common.{◌≡◌, suc, ◌+◌, ◌-◌, ◌*◌, ◌≤◌}
-use Rattle.vale_syntax.specs.Parse.{chain, indexed, others, parse}
-use Rattle.expr_parser.specs.Reads.{view, view_list}
+use Rattle.vale_syntax.specs.inner.Parse.{chain, indices, others, parse}
+use Rattle.expr_parser.specs.inner.Reads.{view, view_list}
 use Rattle.expr_parser.proofs.parser.+expression.Given as goal
 
 abbrev pub decreases-part : goal.decreases-part
@@ -45,7 +45,7 @@ invariant-chain-loop-turn l = record {
 
 abbrev pub invariant-indexed-loop-turn : goal.invariant-indexed-loop-turn
 invariant-indexed-loop-turn l = record {
-  found : indexed (parse l.below) l.below (suc l.below - l._turn) l.spot (view l.sofar) ≡ indexed (parse l.below) l.below (suc l.below) l.fn.spot (view l.fn.first);
+  found : indices (parse l.below) l.below (suc l.below - l._turn) l.spot (view l.sofar) ≡ indices (parse l.below) l.below (suc l.below) l.fn.spot (view l.fn.first);
   shallow : l.sofar.height ≤ suc l.below;
 }
 

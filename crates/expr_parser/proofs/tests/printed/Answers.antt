@@ -1,6 +1,6 @@
 use Rattle.std.proofs.Common.{refl, subst}
 use Rattle.vale_syntax.specs.Expressions.{IsExpr}
-use Rattle.vale_syntax.specs.Trees.{tree}
+use Rattle.vale_syntax.specs.inner.CodeTrees.{tree}
 use Rattle.expr_parser.proofs.tests.printed.Goals as goal
 
 pub print_expr-requires : goal.print_expr-requires

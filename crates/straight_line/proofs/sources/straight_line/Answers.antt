@@ -1,4 +1,4 @@
-use Rattle.vale_syntax.specs.Programs.{decl_tree}
+use Rattle.vale_syntax.specs.inner.CodeTrees.{decl_tree}
 use Rattle.straight_line.proofs.Fits.{pair_given}
 use Rattle.straight_line.proofs.sources.straight_line.Goals as goal
 

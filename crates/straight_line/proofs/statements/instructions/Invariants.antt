@@ -1,5 +1,5 @@
 use Rattle.std.proofs.Common.{◌≡◌, [], drop, map}
-use Rattle.vale_syntax.specs.Programs.{stmt_tree}
+use Rattle.vale_syntax.specs.inner.CodeTrees.{stmt_tree}
 use Rattle.straight_line.specs.Form.{statements_from}
 use Rattle.straight_line.proofs.statements.instructions.Given as goal
 

@@ -2,7 +2,7 @@ use Rattle.std.proofs.Common.{◌+◌, Some, Err, ap, ◌∙◌, subst, drop, ma
 use Rattle.std.specs.Prelude.{codes}
 use Rattle.vale_driver.specs.Sources.{refusal}
 use Rattle.std.proofs.lemmas.List.{map-append}
-use Rattle.vale_syntax.specs.Programs.{decl_tree}
+use Rattle.vale_syntax.specs.inner.CodeTrees.{decl_tree}
 use Rattle.vale_syntax.specs.Declarations.{AreDecls}
 use Rattle.vale_parser.specs.Sources.{StopsAt}
 use Rattle.vale_driver.proofs.Files.{turn, parsed_one, refused_decl, parsed_all}

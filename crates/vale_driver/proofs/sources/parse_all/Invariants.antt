@@ -1,5 +1,5 @@
 use Rattle.std.proofs.Common.{drop, map}
-use Rattle.vale_syntax.specs.Programs.{decl_tree}
+use Rattle.vale_syntax.specs.inner.CodeTrees.{decl_tree}
 use Rattle.vale_driver.proofs.Going.{Parsing}
 use Rattle.vale_driver.proofs.sources.parse_all.Given as goal
 

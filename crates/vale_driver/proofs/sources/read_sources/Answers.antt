@@ -1,6 +1,6 @@
 use Rattle.std.proofs.Common.{map, ap, sym, ◌∙◌, subst}
 use Rattle.std.proofs.lemmas.Result.{err_from_is_err_and}
-use Rattle.vale_syntax.specs.Programs.{decl_tree}
+use Rattle.vale_syntax.specs.inner.CodeTrees.{decl_tree}
 use Rattle.straight_line.specs.Form.{straight_line}
 use Rattle.vale_driver.specs.Phases.{seen_all, scan, Parsed, Parses, Unparsed}
 use Rattle.vale_driver.specs.Sources.{FirstOf}

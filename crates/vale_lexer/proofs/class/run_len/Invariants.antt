@@ -1,6 +1,6 @@
 use Rattle.std.proofs.Common.{◌≡◌, ◌+◌, drop}
 use Rattle.std.specs.List.{prefix_len}
-use Rattle.vale_lexer.specs.Classes.{in_class}
+use Rattle.vale_lexer.specs.inner.Classes.{in_class}
 use Rattle.vale_lexer.proofs.class.run_len.Given as goal
 
 abbrev pub invariant-loop-i : goal.invariant-loop-i

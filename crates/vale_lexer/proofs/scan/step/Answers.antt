@@ -1,5 +1,5 @@
 use Rattle.std.proofs.Common.{sym, ap}
-use Rattle.vale_lexer.specs.Lexes.{in_front}
+use Rattle.vale_lexer.specs.inner.Lexes.{in_front}
 use Rattle.vale_lexer.proofs.Lexing.{skipped, taken, stopped, fault_told}
 use Rattle.vale_lexer.proofs.scan.step.Goals as goal
 

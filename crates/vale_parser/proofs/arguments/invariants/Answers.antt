@@ -1,7 +1,7 @@
 use Rattle.std.proofs.Common.{[], ◌∷◌, length, map, sym, ◌∙◌, arith}
 use Rattle.std.proofs.lemmas.List.{map-append}
-use Rattle.vale_syntax.specs.Trees.{tree}
-use Rattle.vale_parser.specs.Productions.{is_invariant, invariant_}
+use Rattle.vale_syntax.specs.inner.CodeTrees.{tree}
+use Rattle.vale_parser.specs.inner.Productions.{is_invariant, invariant_}
 use Rattle.vale_syntax.proofs.Faults.{passed_on}
 use Rattle.vale_parser.proofs.Turns.{turns, many_stop, many_fail, many_go_on, many_done}
 use Rattle.vale_parser.proofs.arguments.invariants.Goals as goal

@@ -1,7 +1,7 @@
 use Rattle.std.proofs.Common.{◌≡◌, [], map, length, ◌-◌}
-use Rattle.vale_syntax.specs.Trees.{tree}
-use Rattle.vale_parser.specs.Parts.{many}
-use Rattle.vale_parser.specs.Productions.{is_invariant, invariant_}
+use Rattle.vale_syntax.specs.inner.CodeTrees.{tree}
+use Rattle.vale_parser.specs.inner.Parts.{many}
+use Rattle.vale_parser.specs.inner.Productions.{is_invariant, invariant_}
 use Rattle.vale_parser.proofs.arguments.invariants.Given as goal
 
 -- what the turns that are left give is what all give

@@ -1,8 +1,8 @@
 use Rattle.std.proofs.Common.{[], length}
-use Rattle.vale_syntax.specs.Programs.{clause_tree}
-use Rattle.vale_parser.specs.Parts.{many}
-use Rattle.vale_parser.specs.Productions.{begins_clause, clause}
-use Rattle.vale_parser.specs.Things.{AClause}
+use Rattle.vale_syntax.specs.inner.CodeTrees.{clause_tree}
+use Rattle.vale_parser.specs.inner.Parts.{many}
+use Rattle.vale_parser.specs.inner.Productions.{begins_clause, clause}
+use Rattle.vale_parser.specs.inner.Things.{AClause}
 use Rattle.vale_parser.proofs.Things.{many_tagged, untagged}
 use Rattle.vale_parser.proofs.clauses.clauses.Goals as goal
 

@@ -1,8 +1,8 @@
 use Rattle.std.proofs.Common.{[], length}
-use Rattle.vale_syntax.specs.Programs.{lclause_tree}
-use Rattle.vale_parser.specs.Parts.{many}
-use Rattle.vale_parser.specs.Productions.{begins_lclause, lclause}
-use Rattle.vale_parser.specs.Things.{ALClause}
+use Rattle.vale_syntax.specs.inner.CodeTrees.{lclause_tree}
+use Rattle.vale_parser.specs.inner.Parts.{many}
+use Rattle.vale_parser.specs.inner.Productions.{begins_lclause, lclause}
+use Rattle.vale_parser.specs.inner.Things.{ALClause}
 use Rattle.vale_parser.proofs.Things.{many_tagged, untagged}
 use Rattle.vale_parser.proofs.clauses.lemma_clauses.Goals as goal
 

@@ -1,6 +1,7 @@
 use Rattle.std.proofs.Common.{◌≡◌, ◌≤◌, ◌+◌, ◌-◌, ◌*◌, map, length}
-use Rattle.vale_syntax.specs.Programs.{lstmt_tree, lsts, no_lsts}
-use Rattle.vale_parser.specs.Productions.{lstatement, lbody}
+use Rattle.vale_syntax.specs.Programs.{no_lsts}
+use Rattle.vale_syntax.specs.inner.CodeTrees.{lstmt_tree, lsts}
+use Rattle.vale_parser.specs.inner.Productions.{lstatement, lbody}
 use Rattle.vale_parser.proofs.lemma_statements.+statement.Given as goal
 
 abbrev pub decreases-statement : goal.decreases-statement

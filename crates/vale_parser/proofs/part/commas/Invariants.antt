@@ -1,5 +1,5 @@
 use Rattle.std.proofs.Common.{◌≡◌, map, ◌-◌}
-use Rattle.vale_parser.specs.Parts.{commas}
+use Rattle.vale_parser.specs.inner.Parts.{commas}
 use Rattle.vale_parser.proofs.part.commas.Given as goal
 
 -- what the turns that are left give is what all give

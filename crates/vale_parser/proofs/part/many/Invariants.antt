@@ -1,5 +1,5 @@
 use Rattle.std.proofs.Common.{◌≡◌, [], map, length, ◌-◌}
-use Rattle.vale_parser.specs.Parts.{many}
+use Rattle.vale_parser.specs.inner.Parts.{many}
 use Rattle.vale_parser.proofs.part.many.Given as goal
 
 -- what the turns that are left give is what all give

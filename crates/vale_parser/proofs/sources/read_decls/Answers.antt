@@ -1,7 +1,7 @@
 use Rattle.std.proofs.Common.{[], ◌∷◌, map, sym, ◌∙◌}
 use Rattle.std.proofs.lemmas.Bool.{eqb-true}
 use Rattle.std.proofs.lemmas.List.{map-append, nil_from_length}
-use Rattle.vale_syntax.specs.Programs.{decl_tree}
+use Rattle.vale_syntax.specs.inner.CodeTrees.{decl_tree}
 use Rattle.vale_parser.specs.Sources.{no_more}
 use Rattle.vale_parser.proofs.FoundDeclarations.{declaration_shorter}
 use Rattle.vale_parser.proofs.SoundDeclarations.{declaration_sound}

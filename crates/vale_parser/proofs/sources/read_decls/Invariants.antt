@@ -1,5 +1,5 @@
 use Rattle.std.proofs.Common.{map, length}
-use Rattle.vale_syntax.specs.Programs.{decl_tree}
+use Rattle.vale_syntax.specs.inner.CodeTrees.{decl_tree}
 use Rattle.vale_parser.specs.Sources.{Front}
 use Rattle.vale_parser.proofs.sources.read_decls.Given as goal
 

@@ -1,6 +1,7 @@
 use Rattle.std.proofs.Common.{◌≡◌, ◌≤◌, ◌+◌, ◌-◌, ◌*◌, map, length}
-use Rattle.vale_syntax.specs.Programs.{stmt_tree, sts, no_sts}
-use Rattle.vale_parser.specs.Productions.{statement, body}
+use Rattle.vale_syntax.specs.Programs.{no_sts}
+use Rattle.vale_syntax.specs.inner.CodeTrees.{stmt_tree, sts}
+use Rattle.vale_parser.specs.inner.Productions.{statement, body}
 use Rattle.vale_parser.proofs.statements.+statement.Given as goal
 
 abbrev pub decreases-statement : goal.decreases-statement

@@ -1,6 +1,6 @@
 use Rattle.std.proofs.Common.{◌≡◌, ◌++◌, true, map, drop}
-use Rattle.vale_syntax.specs.Trees.{tree, exs}
-use Rattle.vale_syntax.specs.Print.{list_text}
+use Rattle.vale_syntax.specs.inner.CodeTrees.{tree, exs}
+use Rattle.vale_syntax.specs.inner.Print.{list_text}
 use Rattle.vale_syntax.proofs.print.+print.Given as goal
 
 -- what is written so far and the text of the others are that of all

@@ -1,4 +1,4 @@
--- The expression that tokens begin with, found by looking ahead; `expression_law` says that it is the one that they spell.
+-- The expression that tokens begin with, found by looking ahead; `read_as_spelled` says that it is the one that they spell.
 use Rattle.std.specs.Prelude.{ℕ, zero, suc, max, ℤ, neg_ℤ, nat_le, ◌==◌, List, [], ◌∷◌, length, drop, Option, Some, None, if◌then◌else◌}
 use Rattle.vale_syntax.specs.declared.spot.Spot.{Spot}
 use Rattle.vale_syntax.specs.declared.token.Token.{Token}
@@ -9,10 +9,11 @@ use Rattle.vale_syntax.specs.declared.mark.UnaryOp.TheVariants.{Not, Neg}
 use Rattle.vale_syntax.specs.declared.mark.Mark.TheVariants as mark
 use Rattle.vale_syntax.specs.declared.lookahead.Lookahead.{Lookahead}
 use Rattle.vale_syntax.specs.declared.lookahead.Lookahead.TheVariants as see
+use Rattle.vale_syntax.specs.Options.{◌>>=◌}
 use Rattle.vale_syntax.specs.Operators.{rank_of, any, right_of, again_of}
 use Rattle.vale_syntax.specs.Peek.{peek, spot_of}
 use Rattle.vale_syntax.specs.Trees.{Ex, Exs, none, more, with_last, Int, Call, Index, Unary, Binary}
-use Rattle.vale_syntax.specs.Expressions.{name_of, leaf, negated, depth_limit}
+use Rattle.vale_syntax.specs.Expressions.{name_of, leaf, minus_number, depth_limit}
 
 -- a tree, its depth, and the tokens behind it
 pub record Got : Type 0 where
@@ -31,11 +32,6 @@ got x d ts = record { tree = x; height = d; rest = ts }
 abbrev pub got_list : Exs → ℕ → List Token → GotList
 got_list xs d ts = record { trees = xs; height = d; rest = ts }
 
-infixl 10 ◌>>=◌
-abbrev pub ◌>>=◌ : {A B : Type 0} → Option A → (A → Option B) → Option B
-(Some x) >>= f = f x
-None >>= f = None
-
 -- the operator of a rank that a token is
 abbrev pub operator : ℕ → Lookahead → Option BinaryOp
 operator r (see.Mark (mark.Binary o)) = if rank_of o == r then Some o else None
@@ -45,29 +41,29 @@ operator r _ = None
 abbrev pub Parser : Type 0
 Parser = ℕ → List Token → Option Got
 
-abbrev pub alone : Option Ex → List Token → Option Got
-alone None ts = None
-alone (Some x) ts = Some (got x 1 (drop 1 ts))
+abbrev pub leaf_parse : Option Ex → List Token → Option Got
+leaf_parse None ts = None
+leaf_parse (Some x) ts = Some (got x 1 (drop 1 ts))
 
-abbrev pub bracketed : Lookahead → Got → Option Got
-bracketed (see.Mark mark.RoundClose) g = Some (got g.tree (suc g.height) (drop 1 g.rest))
-bracketed _ g = None
+abbrev pub round_by : Lookahead → Got → Option Got
+round_by (see.Mark mark.RoundClose) g = Some (got g.tree (suc g.height) (drop 1 g.rest))
+round_by _ g = None
 
 -- an expression in round brackets
-abbrev pub round : Parser → List Token → Option Got
-round sub ts = sub any (drop 1 ts) >>= λ g. bracketed (peek g.rest) g
+abbrev pub round_parse : Parser → List Token → Option Got
+round_parse sub ts = sub any (drop 1 ts) >>= λ g. round_by (peek g.rest) g
 
-abbrev pub under : Spot → UnaryOp → Got → Option Got
-under s o g = Some (got (Unary s o g.tree) (suc g.height) g.rest)
+abbrev pub unary_node : Spot → UnaryOp → Got → Option Got
+unary_node s o g = Some (got (Unary s o g.tree) (suc g.height) g.rest)
 
 -- an operator and the expression behind it
-abbrev pub prefixed : Parser → UnaryOp → List Token → Option Got
-prefixed sub o ts = sub 0 (drop 1 ts) >>= under (spot_of ts) o
+abbrev pub prefix_parse : Parser → UnaryOp → List Token → Option Got
+prefix_parse sub o ts = sub 0 (drop 1 ts) >>= unary_node (spot_of ts) o
 
 -- where the closing bracket of an index stands
-abbrev pub squared : {A : Type 0} → Lookahead → Option A → Option A
-squared (see.Mark mark.SquareClose) o = o
-squared _ o = None
+abbrev pub square_by : {A : Type 0} → Lookahead → Option A → Option A
+square_by (see.Mark mark.SquareClose) o = o
+square_by _ o = None
 
 abbrev pub others_by : Lookahead → Exs → ℕ → List Token → Option GotList → Option GotList
 others_by (see.Mark mark.RoundClose) xs d ts go = Some (got_list xs d (drop 1 ts))
@@ -86,36 +82,36 @@ arguments_by sub _ ts = sub any ts >>= λ g. others sub (length ts) (more g.tree
 unfoldable pub arguments : Parser → List Token → Option GotList
 arguments sub ts = arguments_by sub (peek ts) ts
 
-abbrev pub named_by : Parser → Lookahead → List Token → Option Got
-named_by sub (see.Mark mark.RoundOpen) ts = arguments sub (drop 2 ts) >>= λ g. Some (got (Call (name_of ts) g.trees) (suc g.height) g.rest)
-named_by sub _ ts = alone (leaf ts) ts
+abbrev pub name_by : Parser → Lookahead → List Token → Option Got
+name_by sub (see.Mark mark.RoundOpen) ts = arguments sub (drop 2 ts) >>= λ g. Some (got (Call (name_of ts) g.trees) (suc g.height) g.rest)
+name_by sub _ ts = leaf_parse (leaf ts) ts
 
 abbrev pub atom_by : Parser → Lookahead → List Token → Option Got
-atom_by sub (see.Mark mark.RoundOpen) ts = round sub ts
-atom_by sub see.Name ts = named_by sub (peek (drop 1 ts)) ts
-atom_by sub _ ts = alone (leaf ts) ts
+atom_by sub (see.Mark mark.RoundOpen) ts = round_parse sub ts
+atom_by sub see.Name ts = name_by sub (peek (drop 1 ts)) ts
+atom_by sub _ ts = leaf_parse (leaf ts) ts
 
 unfoldable pub atom : Parser → List Token → Option Got
 atom sub ts = atom_by sub (peek ts) ts
 
-abbrev pub indexed_by : Lookahead → ℕ → Got → Option Got → Option Got
-indexed_by (see.Mark mark.SquareOpen) b g go = if nat_le g.height b then go else None
-indexed_by _ b g go = Some g
+abbrev pub indices_by : Lookahead → ℕ → Got → Option Got → Option Got
+indices_by (see.Mark mark.SquareOpen) b g go = if nat_le g.height b then go else None
+indices_by _ b g go = Some g
 
 -- the indices behind an expression, of which at most so many are left
-unfoldable pub indexed : Parser → ℕ → ℕ → Spot → Got → Option Got
-indexed sub b zero s g = Some g
-indexed sub b (suc n) s g = indexed_by (peek g.rest) b g (sub any (drop 1 g.rest) >>= λ h.
-    squared (peek h.rest) (indexed sub b n s (got (Index s g.tree h.tree) (suc (max g.height h.height)) (drop 1 h.rest))))
+unfoldable pub indices : Parser → ℕ → ℕ → Spot → Got → Option Got
+indices sub b zero s g = Some g
+indices sub b (suc n) s g = indices_by (peek g.rest) b g (sub any (drop 1 g.rest) >>= λ h.
+    square_by (peek h.rest) (indices sub b n s (got (Index s g.tree h.tree) (suc (max g.height h.height)) (drop 1 h.rest))))
 
 abbrev pub minus_by : Parser → Option ℤ → List Token → Option Got
 minus_by sub (Some z) ts = Some (got (Int (spot_of ts) (neg_ℤ z)) 1 (drop 2 ts))
-minus_by sub None ts = prefixed sub Neg ts
+minus_by sub None ts = prefix_parse sub Neg ts
 
 abbrev pub unary_by : Parser → ℕ → Lookahead → List Token → Option Got
-unary_by sub b (see.Mark mark.Bang) ts = prefixed sub Not ts
-unary_by sub b (see.Mark (mark.Binary Sub)) ts = minus_by sub (negated ts) ts
-unary_by sub b _ ts = atom sub ts >>= indexed sub b (suc b) (spot_of ts)
+unary_by sub b (see.Mark mark.Bang) ts = prefix_parse sub Not ts
+unary_by sub b (see.Mark (mark.Binary Sub)) ts = minus_by sub (minus_number ts) ts
+unary_by sub b _ ts = atom sub ts >>= indices sub b (suc b) (spot_of ts)
 
 unfoldable pub unary : Parser → ℕ → List Token → Option Got
 unary sub b ts = unary_by sub b (peek ts) ts
@@ -131,19 +127,19 @@ chain sub b (suc n) r s g = chain_by (operator r (peek g.rest)) b g (λ o. sub (
     chain sub b n (again_of o) s (got (Binary s o g.tree h.tree) (suc (max g.height h.height)) h.rest))
 
 -- an expression of a rank, whose parts the parser finds
-unfoldable pub ranked : Parser → ℕ → ℕ → List Token → Option Got
-ranked sub b zero ts = unary sub b ts
-ranked sub b (suc r) ts = ranked sub b r ts >>= chain sub b (suc b) (suc r) (spot_of ts)
+unfoldable pub rank_parse : Parser → ℕ → ℕ → List Token → Option Got
+rank_parse sub b zero ts = unary sub b ts
+rank_parse sub b (suc r) ts = rank_parse sub b r ts >>= chain sub b (suc b) (suc r) (spot_of ts)
 
 -- the expression of a rank, with a depth of at most so many, that the tokens begin with
 unfoldable pub parse : ℕ → ℕ → List Token → Option Got
 parse zero r ts = None
-parse (suc b) r ts = ranked (parse b) b r ts
+parse (suc b) r ts = rank_parse (parse b) b r ts
 
 abbrev pub whole_by : Ex → List Token → Option Ex
 whole_by x [] = Some x
 whole_by x (t ∷ ts) = None
 
 -- the expression that the tokens are, all of them
-unfoldable pub read : List Token → Option Ex
-read ts = parse depth_limit any ts >>= λ g. whole_by g.tree g.rest
+unfoldable pub whole_parse : List Token → Option Ex
+whole_parse ts = parse depth_limit any ts >>= λ g. whole_by g.tree g.rest

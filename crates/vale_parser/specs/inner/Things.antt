@@ -6,7 +6,7 @@ use Rattle.vale_syntax.specs.declared.declaration.Param.{Param}
 use Rattle.vale_syntax.specs.declared.declaration.ReadPlace.{ReadPlace}
 use Rattle.vale_syntax.specs.Trees.{Ex}
 use Rattle.vale_syntax.specs.Programs.{Ar, Cl, LCl}
-use Rattle.vale_parser.specs.Parts.{bind as and_then, Parser}
+use Rattle.vale_parser.specs.inner.Parts.{bind as and_then, Parser}
 
 pub data Thing : Type 0 where
   AnExpr : Ex → Thing
@@ -18,5 +18,5 @@ pub data Thing : Type 0 where
   AClause : Cl → Thing
   ALClause : LCl → Thing
 
-abbrev pub tagged : {A : Type 0} → (A → Thing) → Parser A → Parser Thing
-tagged f item ts = and_then (item ts) (λ p. Some (f p.0, p.1))
+abbrev pub thing_parser : {A : Type 0} → (A → Thing) → Parser A → Parser Thing
+thing_parser f item ts = and_then (item ts) (λ p. Some (f p.0, p.1))

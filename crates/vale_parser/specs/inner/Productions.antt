@@ -1,4 +1,4 @@
--- The thing of each production that tokens begin with, found by looking ahead; `declarations_as_spelled` says that it is the one that they spell.
+-- The thing of each production that tokens begin with, found by looking ahead; `read_decls` gives it, and it is the one that they spell.
 use Rattle.std.specs.Prelude.{ℕ, zero, suc, max, Bool, true, false, ◌&&◌, List, [], length, drop, Option, Some, None, if◌then◌else◌}
 use Rattle.std.specs.List.{list_all}
 use Rattle.x64_syntax.specs.declared.keywords.Keyword.TheVariants as word
@@ -21,12 +21,12 @@ use Rattle.vale_syntax.specs.declared.declaration.ReadPlace.{ReadPlace}
 use Rattle.vale_syntax.specs.Peek.{peek, spot_of}
 use Rattle.vale_syntax.specs.Trees.{Ex}
 use Rattle.vale_syntax.specs.Expressions.{name_of}
-use Rattle.vale_syntax.specs.Programs.{Ar, Memory, Value, St, Sts, no_sts, Arm, no_arm, arm, Call, Assert, Ghost, Assign, If, While, InlineIf, LSt, LSts, no_lsts, LArm, no_larm, larm, LCall, LAssert, LIf, Cl, Reads, Modifies, Requires, Ensures, Stack, Abi, LCl, LRequires, LEnsures, LDecreases, De, Procedure, Lemma, Function, Export}
+use Rattle.vale_syntax.specs.Programs.{Ar, Memory, Value, St, Sts, no_sts, Arm, no_arm, arm, CallStatement, Assert, Ghost, Assign, If, While, InlineIf, LSt, LSts, no_lsts, LArm, no_larm, larm, LCall, LAssert, LIf, Cl, Reads, Modifies, Requires, Ensures, Stack, Abi, LCl, LRequires, LEnsures, LDecreases, De, Procedure, Lemma, Function, Export}
 use Rattle.vale_syntax.specs.Statements.{is_plain, tokens_before, sort_at, sts_last, lsts_last, statement_limit}
 use Rattle.vale_syntax.specs.Declarations.{kind_at, abi_at}
-use Rattle.expr_parser.specs.Reads.{expression as expression_front}
+use Rattle.expr_parser.specs.inner.Reads.{expression as expression_front}
 use Rattle.vale_syntax.specs.inner.Marks.{is_mark}
-use Rattle.vale_parser.specs.Parts.{bind as and_then, Parser, expect, before, separated, closed, many}
+use Rattle.vale_parser.specs.inner.Parts.{bind as and_then, Parser, expect, before, comma_list, closed_list, many}
 
 -- words
 abbrev pub is_name : Lookahead → Bool
@@ -61,16 +61,16 @@ abbrev pub is_step : Lookahead → Bool
 is_step (see.Keyword word.Step) = true
 is_step _ = false
 
-abbrev pub asked : {A : Type 0} → Bool → Option A → Option A
-asked true o = o
-asked false o = None
+abbrev pub only_if : {A : Type 0} → Bool → Option A → Option A
+only_if true o = o
+only_if false o = None
 
 abbrev pub name : Parser Name
-name ts = asked (is_name (peek ts)) (Some (name_of ts, drop 1 ts))
+name ts = only_if (is_name (peek ts)) (Some (name_of ts, drop 1 ts))
 
 -- an expression, where it has no stamped names
 abbrev pub plain_only : List Token → Ex × List Token → Option (Ex × List Token)
-plain_only ts p = asked (list_all is_plain (tokens_before p.1 ts)) (Some p)
+plain_only ts p = only_if (list_all is_plain (tokens_before p.1 ts)) (Some p)
 
 abbrev pub expression : Parser Ex
 expression ts = and_then (expression_front ts) (plain_only ts)
@@ -113,28 +113,28 @@ abbrev pub block_at : Spot → Bool → List Token → Option (Param × List Tok
 block_at s b ts = and_then (name ts) (λ n. Some (param.Block s b n.0, n.1))
 
 -- a parameter that may be secret
-abbrev pub guarded_by : Spot → Bool → Lookahead → List Token → Option (Param × List Token)
-guarded_by s b (see.Keyword word.In) ts = operand_at s b direction.In ts
-guarded_by s b (see.Keyword word.InOut) ts = operand_at s b direction.InOut ts
-guarded_by s b (see.Keyword word.Block) ts = block_at s b ts
-guarded_by s b _ ts = None
+abbrev pub secret_param_by : Spot → Bool → Lookahead → List Token → Option (Param × List Token)
+secret_param_by s b (see.Keyword word.In) ts = operand_at s b direction.In ts
+secret_param_by s b (see.Keyword word.InOut) ts = operand_at s b direction.InOut ts
+secret_param_by s b (see.Keyword word.Block) ts = block_at s b ts
+secret_param_by s b _ ts = None
 
-abbrev pub guarded : Spot → Bool → List Token → Option (Param × List Token)
-guarded s b ts = guarded_by s b (peek ts) (drop 1 ts)
+abbrev pub secret_param : Spot → Bool → List Token → Option (Param × List Token)
+secret_param s b ts = secret_param_by s b (peek ts) (drop 1 ts)
 
 abbrev pub param_by : Lookahead → List Token → Option (Param × List Token)
-param_by (see.Keyword word.Secret) ts = guarded (spot_of ts) true (drop 1 ts)
+param_by (see.Keyword word.Secret) ts = secret_param (spot_of ts) true (drop 1 ts)
 param_by (see.Keyword word.Out) ts = out_at (spot_of ts) (drop 1 ts)
 param_by (see.Keyword word.Inline) ts = inline_at (spot_of ts) (drop 1 ts)
 param_by (see.Keyword word.Ghost) ts = ghost_at (spot_of ts) (drop 1 ts)
-param_by _ ts = guarded (spot_of ts) false ts
+param_by _ ts = secret_param (spot_of ts) false ts
 
 unfoldable pub parameter : Parser Param
 parameter ts = param_by (peek ts) ts
 
 -- an argument
 abbrev pub memory_at : Name → Ex → List Token → Option (Ar × List Token)
-memory_at b i ts = and_then (expect mark.RoundOpen ts) (λ rest. and_then (before mark.RoundClose (separated expression rest)) (λ a. Some (Memory b i a.0, a.1)))
+memory_at b i ts = and_then (expect mark.RoundOpen ts) (λ rest. and_then (before mark.RoundClose (comma_list expression rest)) (λ a. Some (Memory b i a.0, a.1)))
 
 abbrev pub value_at : List Token → Option (Ar × List Token)
 value_at ts = and_then (expression ts) (λ x. Some (Value x.0, x.1))
@@ -152,7 +152,7 @@ abbrev pub expression_end : List Token → Option (Ex × List Token)
 expression_end ts = before mark.Semicolon (expression (drop 1 ts))
 
 unfoldable pub invariant_ : Parser Ex
-invariant_ ts = asked (is_invariant (peek ts)) (expression_end ts)
+invariant_ ts = only_if (is_invariant (peek ts)) (expression_end ts)
 
 -- `(t)`
 abbrev pub test : Parser Ex
@@ -160,15 +160,15 @@ test ts = and_then (expect mark.RoundOpen ts) (λ rest. before mark.RoundClose (
 
 -- statements that have none inside
 abbrev pub call_at : List Token → Option (St × List Token)
-call_at ts = and_then (before mark.Semicolon (closed argument (drop 2 ts))) (λ a. Some (Call (name_of ts) a.0, a.1))
+call_at ts = and_then (before mark.Semicolon (closed_list argument (drop 2 ts))) (λ a. Some (CallStatement (name_of ts) a.0, a.1))
 
 abbrev pub assign_at : List Token → Option (St × List Token)
 assign_at ts = and_then (before mark.Semicolon (expression (drop 2 ts))) (λ x. Some (Assign (name_of ts) x.0, x.1))
 
-abbrev pub named_by : Lookahead → List Token → Option (St × List Token)
-named_by (see.Mark mark.RoundOpen) ts = call_at ts
-named_by (see.Mark mark.Assign) ts = assign_at ts
-named_by _ ts = None
+abbrev pub call_or_assign : Lookahead → List Token → Option (St × List Token)
+call_or_assign (see.Mark mark.RoundOpen) ts = call_at ts
+call_or_assign (see.Mark mark.Assign) ts = assign_at ts
+call_or_assign _ ts = None
 
 abbrev pub ghost_statement : List Token → Option (St × List Token)
 ghost_statement ts =
@@ -176,7 +176,7 @@ ghost_statement ts =
     and_then (before mark.Semicolon (expression rest)) (λ x. Some (Ghost (spot_of ts) n.0 s.0 x.0, x.1)))))
 
 abbrev pub simple_by : Lookahead → List Token → Option (St × List Token)
-simple_by see.Name ts = named_by (peek (drop 1 ts)) ts
+simple_by see.Name ts = call_or_assign (peek (drop 1 ts)) ts
 simple_by (see.Keyword word.Assert) ts = and_then (expression_end ts) (λ x. Some (Assert (spot_of ts) x.0, x.1))
 simple_by (see.Keyword word.Ghost) ts = ghost_statement ts
 simple_by _ ts = None
@@ -185,43 +185,43 @@ unfoldable pub simple : Parser St
 simple ts = simple_by (peek ts) ts
 
 -- a statement, its depth, and the tokens behind it
-pub record Stated : Type 0 where
+pub record StatementParse : Type 0 where
   pub tree : St
   pub height : ℕ
   pub rest : List Token
 
-pub record Bodied : Type 0 where
+pub record BodyParse : Type 0 where
   pub trees : Sts
   pub height : ℕ
   pub rest : List Token
 
-pub record Armed : Type 0 where
+pub record ElseParse : Type 0 where
   pub arm : Arm
   pub height : ℕ
   pub rest : List Token
 
-abbrev pub stated : St → ℕ → List Token → Stated
-stated x d ts = record { tree = x; height = d; rest = ts }
+abbrev pub statement_parse : St → ℕ → List Token → StatementParse
+statement_parse x d ts = record { tree = x; height = d; rest = ts }
 
-abbrev pub bodied : Sts → ℕ → List Token → Bodied
-bodied xs d ts = record { trees = xs; height = d; rest = ts }
+abbrev pub body_parse : Sts → ℕ → List Token → BodyParse
+body_parse xs d ts = record { trees = xs; height = d; rest = ts }
 
-abbrev pub armed : Arm → ℕ → List Token → Armed
-armed y d ts = record { arm = y; height = d; rest = ts }
+abbrev pub else_parse : Arm → ℕ → List Token → ElseParse
+else_parse y d ts = record { arm = y; height = d; rest = ts }
 
 abbrev pub Statements : Type 0
-Statements = List Token → Option Stated
+Statements = List Token → Option StatementParse
 
 -- the statements behind some, as far as the closing brace
-unfoldable pub body : Statements → ℕ → Sts → ℕ → List Token → Option Bodied
+unfoldable pub body : Statements → ℕ → Sts → ℕ → List Token → Option BodyParse
 body sub zero xs d ts = None
-body sub (suc n) xs d ts = if is_mark mark.BraceClose (peek ts) then Some (bodied xs d (drop 1 ts)) else and_then (sub ts) (λ s. body sub n (sts_last xs s.tree) (max d s.height) s.rest)
+body sub (suc n) xs d ts = if is_mark mark.BraceClose (peek ts) then Some (body_parse xs d (drop 1 ts)) else and_then (sub ts) (λ s. body sub n (sts_last xs s.tree) (max d s.height) s.rest)
 
-abbrev pub block : Statements → List Token → Option Bodied
+abbrev pub block : Statements → List Token → Option BodyParse
 block sub ts = and_then (expect mark.BraceOpen ts) (λ rest. body sub (length rest) no_sts 0 rest)
 
-abbrev pub else_by : Statements → List Token → Option Armed
-else_by sub ts = if is_else (peek ts) then and_then (block sub (drop 1 ts)) (λ b. Some (armed (arm b.trees) b.height b.rest)) else Some (armed no_arm 0 ts)
+abbrev pub else_by : Statements → List Token → Option ElseParse
+else_by sub ts = if is_else (peek ts) then and_then (block sub (drop 1 ts)) (λ b. Some (else_parse (arm b.trees) b.height b.rest)) else Some (else_parse no_arm 0 ts)
 
 -- both arms behind a test, with the depth of the whole
 pub record Branches : Type 0 where
@@ -236,68 +236,68 @@ branches xs y d ts = record { first = xs; second = y; height = d; rest = ts }
 abbrev pub arms : Statements → List Token → Option Branches
 arms sub ts = and_then (block sub ts) (λ b. and_then (else_by sub b.rest) (λ e. Some (branches b.trees e.arm (suc (max b.height e.height)) e.rest)))
 
-abbrev pub if_at : Statements → Spot → Option (Ex × List Token) → Option Stated
-if_at sub s found = and_then found (λ t. and_then (arms sub t.1) (λ a. Some (stated (If s t.0 a.first a.second) a.height a.rest)))
+abbrev pub if_at : Statements → Spot → Option (Ex × List Token) → Option StatementParse
+if_at sub s found = and_then found (λ t. and_then (arms sub t.1) (λ a. Some (statement_parse (If s t.0 a.first a.second) a.height a.rest)))
 
-abbrev pub inline_if_at : Statements → Spot → Option (Ex × List Token) → Option Stated
-inline_if_at sub s found = and_then found (λ t. and_then (arms sub t.1) (λ a. Some (stated (InlineIf s t.0 a.first a.second) a.height a.rest)))
+abbrev pub inline_if_at : Statements → Spot → Option (Ex × List Token) → Option StatementParse
+inline_if_at sub s found = and_then found (λ t. and_then (arms sub t.1) (λ a. Some (statement_parse (InlineIf s t.0 a.first a.second) a.height a.rest)))
 
-abbrev pub loop_at : Statements → Spot → Ex × List Token → Option Stated
+abbrev pub loop_at : Statements → Spot → Ex × List Token → Option StatementParse
 loop_at sub s t =
-    and_then (many is_invariant invariant_ (length t.1) [] t.1) (λ is. and_then (asked (is_decreases (peek is.1)) (expression_end is.1)) (λ m.
-    and_then (block sub m.1) (λ b. Some (stated (While s t.0 is.0 m.0 b.trees) (suc b.height) b.rest))))
+    and_then (many is_invariant invariant_ (length t.1) [] t.1) (λ is. and_then (only_if (is_decreases (peek is.1)) (expression_end is.1)) (λ m.
+    and_then (block sub m.1) (λ b. Some (statement_parse (While s t.0 is.0 m.0 b.trees) (suc b.height) b.rest))))
 
-abbrev pub shallow : Option (St × List Token) → Option Stated
-shallow found = and_then found (λ x. Some (stated x.0 1 x.1))
+abbrev pub shallow_statement : Option (St × List Token) → Option StatementParse
+shallow_statement found = and_then found (λ x. Some (statement_parse x.0 1 x.1))
 
-abbrev pub statement_by : Statements → Lookahead → List Token → Option Stated
+abbrev pub statement_by : Statements → Lookahead → List Token → Option StatementParse
 statement_by sub (see.Keyword word.If) ts = if_at sub (spot_of ts) (test (drop 1 ts))
 statement_by sub (see.Keyword word.While) ts = and_then (test (drop 1 ts)) (loop_at sub (spot_of ts))
-statement_by sub (see.Keyword word.Inline) ts = inline_if_at sub (spot_of ts) (asked (is_if (peek (drop 1 ts))) (test (drop 2 ts)))
-statement_by sub _ ts = shallow (simple ts)
+statement_by sub (see.Keyword word.Inline) ts = inline_if_at sub (spot_of ts) (only_if (is_if (peek (drop 1 ts))) (test (drop 2 ts)))
+statement_by sub _ ts = shallow_statement (simple ts)
 
 -- a statement with a depth of at most so many
-unfoldable pub statement : ℕ → List Token → Option Stated
+unfoldable pub statement : ℕ → List Token → Option StatementParse
 statement zero ts = None
 statement (suc b) ts = statement_by (statement b) (peek ts) ts
 
 -- the same for lemmas
-pub record LStated : Type 0 where
+pub record LStatementParse : Type 0 where
   pub tree : LSt
   pub height : ℕ
   pub rest : List Token
 
-pub record LBodied : Type 0 where
+pub record LBodyParse : Type 0 where
   pub trees : LSts
   pub height : ℕ
   pub rest : List Token
 
-pub record LArmed : Type 0 where
+pub record LElseParse : Type 0 where
   pub arm : LArm
   pub height : ℕ
   pub rest : List Token
 
-abbrev pub lstated : LSt → ℕ → List Token → LStated
-lstated x d ts = record { tree = x; height = d; rest = ts }
+abbrev pub lstatement_parse : LSt → ℕ → List Token → LStatementParse
+lstatement_parse x d ts = record { tree = x; height = d; rest = ts }
 
-abbrev pub lbodied : LSts → ℕ → List Token → LBodied
-lbodied xs d ts = record { trees = xs; height = d; rest = ts }
+abbrev pub lbody_parse : LSts → ℕ → List Token → LBodyParse
+lbody_parse xs d ts = record { trees = xs; height = d; rest = ts }
 
-abbrev pub larmed : LArm → ℕ → List Token → LArmed
-larmed y d ts = record { arm = y; height = d; rest = ts }
+abbrev pub lelse_parse : LArm → ℕ → List Token → LElseParse
+lelse_parse y d ts = record { arm = y; height = d; rest = ts }
 
 abbrev pub LStatements : Type 0
-LStatements = List Token → Option LStated
+LStatements = List Token → Option LStatementParse
 
-unfoldable pub lbody : LStatements → ℕ → LSts → ℕ → List Token → Option LBodied
+unfoldable pub lbody : LStatements → ℕ → LSts → ℕ → List Token → Option LBodyParse
 lbody sub zero xs d ts = None
-lbody sub (suc n) xs d ts = if is_mark mark.BraceClose (peek ts) then Some (lbodied xs d (drop 1 ts)) else and_then (sub ts) (λ s. lbody sub n (lsts_last xs s.tree) (max d s.height) s.rest)
+lbody sub (suc n) xs d ts = if is_mark mark.BraceClose (peek ts) then Some (lbody_parse xs d (drop 1 ts)) else and_then (sub ts) (λ s. lbody sub n (lsts_last xs s.tree) (max d s.height) s.rest)
 
-abbrev pub lblock : LStatements → List Token → Option LBodied
+abbrev pub lblock : LStatements → List Token → Option LBodyParse
 lblock sub ts = and_then (expect mark.BraceOpen ts) (λ rest. lbody sub (length rest) no_lsts 0 rest)
 
-abbrev pub lelse_by : LStatements → List Token → Option LArmed
-lelse_by sub ts = if is_else (peek ts) then and_then (lblock sub (drop 1 ts)) (λ b. Some (larmed (larm b.trees) b.height b.rest)) else Some (larmed no_larm 0 ts)
+abbrev pub lelse_by : LStatements → List Token → Option LElseParse
+lelse_by sub ts = if is_else (peek ts) then and_then (lblock sub (drop 1 ts)) (λ b. Some (lelse_parse (larm b.trees) b.height b.rest)) else Some (lelse_parse no_larm 0 ts)
 
 pub record LBranches : Type 0 where
   pub first : LSts
@@ -311,19 +311,19 @@ lbranches xs y d ts = record { first = xs; second = y; height = d; rest = ts }
 abbrev pub larms : LStatements → List Token → Option LBranches
 larms sub ts = and_then (lblock sub ts) (λ b. and_then (lelse_by sub b.rest) (λ e. Some (lbranches b.trees e.arm (suc (max b.height e.height)) e.rest)))
 
-abbrev pub lif_at : LStatements → Spot → Option (Ex × List Token) → Option LStated
-lif_at sub s found = and_then found (λ t. and_then (larms sub t.1) (λ a. Some (lstated (LIf s t.0 a.first a.second) a.height a.rest)))
+abbrev pub lif_at : LStatements → Spot → Option (Ex × List Token) → Option LStatementParse
+lif_at sub s found = and_then found (λ t. and_then (larms sub t.1) (λ a. Some (lstatement_parse (LIf s t.0 a.first a.second) a.height a.rest)))
 
-abbrev pub lcall : List Token → Option LStated
-lcall ts = and_then (expect mark.RoundOpen (drop 1 ts)) (λ rest. and_then (before mark.Semicolon (closed expression rest)) (λ a. Some (lstated (LCall (name_of ts) a.0) 1 a.1)))
+abbrev pub lcall : List Token → Option LStatementParse
+lcall ts = and_then (expect mark.RoundOpen (drop 1 ts)) (λ rest. and_then (before mark.Semicolon (closed_list expression rest)) (λ a. Some (lstatement_parse (LCall (name_of ts) a.0) 1 a.1)))
 
-abbrev pub lstatement_by : LStatements → Lookahead → List Token → Option LStated
+abbrev pub lstatement_by : LStatements → Lookahead → List Token → Option LStatementParse
 lstatement_by sub see.Name ts = lcall ts
-lstatement_by sub (see.Keyword word.Assert) ts = and_then (expression_end ts) (λ x. Some (lstated (LAssert (spot_of ts) x.0) 1 x.1))
+lstatement_by sub (see.Keyword word.Assert) ts = and_then (expression_end ts) (λ x. Some (lstatement_parse (LAssert (spot_of ts) x.0) 1 x.1))
 lstatement_by sub (see.Keyword word.If) ts = lif_at sub (spot_of ts) (test (drop 1 ts))
 lstatement_by sub _ ts = None
 
-unfoldable pub lstatement : ℕ → List Token → Option LStated
+unfoldable pub lstatement : ℕ → List Token → Option LStatementParse
 lstatement zero ts = None
 lstatement (suc b) ts = lstatement_by (lstatement b) (peek ts) ts
 
@@ -341,10 +341,10 @@ abbrev pub abi_clause : Spot → List Token → Option (Cl × List Token)
 abi_clause s ts = and_then (abi_at ts) (λ a. and_then (expect mark.Semicolon (drop 1 ts)) (λ rest. Some (Abi s a, rest)))
 
 abbrev pub reads_clause : List Token → Option (Cl × List Token)
-reads_clause ts = and_then (before mark.Semicolon (separated place (drop 1 ts))) (λ p. Some (Reads (spot_of ts) p.0, p.1))
+reads_clause ts = and_then (before mark.Semicolon (comma_list place (drop 1 ts))) (λ p. Some (Reads (spot_of ts) p.0, p.1))
 
 abbrev pub modifies_clause : List Token → Option (Cl × List Token)
-modifies_clause ts = and_then (before mark.Semicolon (separated name (drop 1 ts))) (λ p. Some (Modifies (spot_of ts) p.0, p.1))
+modifies_clause ts = and_then (before mark.Semicolon (comma_list name (drop 1 ts))) (λ p. Some (Modifies (spot_of ts) p.0, p.1))
 
 abbrev pub clause_by : Lookahead → List Token → Option (Cl × List Token)
 clause_by (see.Keyword word.Reads) ts = reads_clause ts
@@ -379,12 +379,12 @@ head ts = before mark.RoundOpen (name (drop 1 ts))
 
 abbrev pub procedure_ : Parser De
 procedure_ ts =
-    and_then (head ts) (λ n. and_then (closed parameter n.1) (λ ps. and_then (many begins_clause clause (length ps.1) [] ps.1) (λ cs.
+    and_then (head ts) (λ n. and_then (closed_list parameter n.1) (λ ps. and_then (many begins_clause clause (length ps.1) [] ps.1) (λ cs.
     and_then (block (statement statement_limit) cs.1) (λ b. Some (Procedure (spot_of ts) n.0 ps.0 cs.0 b.trees, b.rest)))))
 
 abbrev pub lemma_ : Parser De
 lemma_ ts =
-    and_then (head ts) (λ n. and_then (closed bind n.1) (λ bs. and_then (many begins_lclause lclause (length bs.1) [] bs.1) (λ cs.
+    and_then (head ts) (λ n. and_then (closed_list bind n.1) (λ bs. and_then (many begins_lclause lclause (length bs.1) [] bs.1) (λ cs.
     and_then (lblock (lstatement statement_limit) cs.1) (λ b. Some (Lemma (spot_of ts) n.0 bs.0 cs.0 b.trees, b.rest)))))
 
 -- what stands before a function's value
@@ -403,7 +403,7 @@ plain_at h ts = and_then (expression_end ts) (λ x. Some (Function h.spot h.name
 -- the parts of a recursive function, in braces
 abbrev pub parts_at : Header → List Token → Option (De × List Token)
 parts_at h ts =
-    and_then (asked (is_zero (peek ts)) (expression_end ts)) (λ x. and_then (asked (is_step (peek x.1)) (expression_end x.1)) (λ y.
+    and_then (only_if (is_zero (peek ts)) (expression_end ts)) (λ x. and_then (only_if (is_step (peek x.1)) (expression_end x.1)) (λ y.
     and_then (expect mark.BraceClose y.1) (λ rest. Some (Function h.spot h.name h.binds h.sort (Some x.0) y.0, rest))))
 
 abbrev pub result_by : Header → Lookahead → List Token → Option (De × List Token)
@@ -415,12 +415,12 @@ abbrev pub result_at : Header → List Token → Option (De × List Token)
 result_at h ts = result_by h (peek ts) ts
 
 abbrev pub function_ : Parser De
-function_ ts = and_then (head ts) (λ n. and_then (closed bind n.1) (λ bs. and_then (sort_behind bs.1) (λ s. result_at (header (spot_of ts) n.0 bs.0 s.0) s.1)))
+function_ ts = and_then (head ts) (λ n. and_then (closed_list bind n.1) (λ bs. and_then (sort_behind bs.1) (λ s. result_at (header (spot_of ts) n.0 bs.0 s.0) s.1)))
 
 abbrev pub export_ : Parser De
 export_ ts =
     and_then (before mark.Equals (name (drop 1 ts))) (λ n. and_then (before mark.RoundOpen (name n.1)) (λ p.
-    and_then (before mark.Semicolon (closed expression p.1)) (λ xs. Some (Export (spot_of ts) n.0 p.0 xs.0, xs.1))))
+    and_then (before mark.Semicolon (closed_list expression p.1)) (λ xs. Some (Export (spot_of ts) n.0 p.0 xs.0, xs.1))))
 
 abbrev pub declaration_by : Lookahead → List Token → Option (De × List Token)
 declaration_by (see.Keyword word.Procedure) ts = procedure_ ts

@@ -10,7 +10,7 @@ use Rattle.vale_syntax.specs.declared.mark.BinaryOp.TheVariants as op
 use Rattle.vale_syntax.specs.declared.mark.UnaryOp.{UnaryOp}
 use Rattle.vale_syntax.specs.declared.mark.UnaryOp.TheVariants as un
 use Rattle.vale_syntax.specs.Operators.{any}
-use Rattle.vale_syntax.specs.Tokens.{is_stamp_byte, whole_limit, word_limit, wide_limit, All, lexed}
+use Rattle.vale_syntax.specs.Tokens.{is_stamp_byte, whole_limit, word_limit, wide_limit, All, tokens_from}
 use Rattle.vale_syntax.specs.Expressions.{Spells}
 use Rattle.vale_syntax.specs.Trees.{Ex, Exs, none, more, Int, Word, Wide, True, False, Prev, Name, Call, Index, Unary, Binary}
 
@@ -39,9 +39,9 @@ is_operand (Unary s o x) = false
 is_operand (Binary s o x y) = false
 is_operand _ = true
 
-abbrev pub bracketed : Bool → List ℕ → List ℕ
-bracketed true text = text
-bracketed false text = codes "(" ++ text ++ codes ")"
+abbrev pub bracketed_text : Bool → List ℕ → List ℕ
+bracketed_text true text = text
+bracketed_text false text = codes "(" ++ text ++ codes ")"
 
 abbrev pub separator : Bool → List ℕ
 separator true = []
@@ -58,16 +58,16 @@ unfoldable mutual
   text (Prev s) = codes "prev"
   text (Name n) = n.text
   text (Call f xs) = f.text ++ codes "(" ++ list_text true xs ++ codes ")"
-  text (Index s x i) = bracketed (is_operand x) (text x) ++ codes "[" ++ text i ++ codes "]"
+  text (Index s x i) = bracketed_text (is_operand x) (text x) ++ codes "[" ++ text i ++ codes "]"
   text (Unary s o x) = unary_text o ++ codes "(" ++ text x ++ codes ")"
-  text (Binary s o x y) = bracketed (is_operand x) (text x) ++ (codes " " ++ binary_text o ++ codes " ") ++ bracketed (is_operand y) (text y)
+  text (Binary s o x y) = bracketed_text (is_operand x) (text x) ++ (codes " " ++ binary_text o ++ codes " ") ++ bracketed_text (is_operand y) (text y)
 
   pub list_text : Bool → Exs → List ℕ
   list_text is_first none = []
   list_text is_first (more x xs) = separator is_first ++ text x ++ list_text false xs
 
 abbrev pub operand_text : Ex → List ℕ
-operand_text x = bracketed (is_operand x) (text x)
+operand_text x = bracketed_text (is_operand x) (text x)
 
 -- a name, a dot, and lower-case letters or digits
 pub record IsStamped (text : List ℕ) : Type 0 where
@@ -106,28 +106,28 @@ nowhere = record { file = 0; at = 0 }
 
 unfoldable mutual
   -- an expression without the places of its nodes
-  pub bare : Ex → Ex
-  bare (Int s z) = Int nowhere z
-  bare (Word s n) = Word nowhere n
-  bare (Wide s n) = Wide nowhere n
-  bare (True s) = True nowhere
-  bare (False s) = False nowhere
-  bare (Prev s) = Prev nowhere
-  bare (Name n) = Name (record { text = n.text; spot = nowhere })
-  bare (Call f xs) = Call (record { text = f.text; spot = nowhere }) (bares xs)
-  bare (Index s x i) = Index nowhere (bare x) (bare i)
-  bare (Unary s o x) = Unary nowhere o (bare x)
-  bare (Binary s o x y) = Binary nowhere o (bare x) (bare y)
+  pub without_places : Ex → Ex
+  without_places (Int s z) = Int nowhere z
+  without_places (Word s n) = Word nowhere n
+  without_places (Wide s n) = Wide nowhere n
+  without_places (True s) = True nowhere
+  without_places (False s) = False nowhere
+  without_places (Prev s) = Prev nowhere
+  without_places (Name n) = Name (record { text = n.text; spot = nowhere })
+  without_places (Call f xs) = Call (record { text = f.text; spot = nowhere }) (list_without_places xs)
+  without_places (Index s x i) = Index nowhere (without_places x) (without_places i)
+  without_places (Unary s o x) = Unary nowhere o (without_places x)
+  without_places (Binary s o x y) = Binary nowhere o (without_places x) (without_places y)
 
-  pub bares : Exs → Exs
-  bares none = none
-  bares (more x xs) = more (bare x) (bares xs)
+  pub list_without_places : Exs → Exs
+  list_without_places none = none
+  list_without_places (more x xs) = more (without_places x) (list_without_places xs)
 
 -- the tokens of the text, in a file, spell the expression, places aside and whatever its depth
 pub record IsTextOf (file : ℕ) (bytes : List ℕ) (x : Ex) : Type 0 where
   pub tokens : List Token
-  pub lexes : lexed file 0 0 bytes ≡ All tokens
+  pub lexes : tokens_from file 0 0 bytes ≡ All tokens
   pub tree : Ex
   pub depth : ℕ
   pub spelled : Spells any depth tokens tree []
-  pub same : bare tree ≡ bare x
+  pub same : without_places tree ≡ without_places x

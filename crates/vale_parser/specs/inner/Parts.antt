@@ -6,7 +6,7 @@ use Rattle.vale_syntax.specs.declared.mark.Mark.TheVariants as mark
 use Rattle.vale_syntax.specs.declared.lookahead.Lookahead.{Lookahead}
 use Rattle.vale_syntax.specs.Peek.{peek}
 use Rattle.vale_syntax.specs.inner.Marks.{is_mark}
-pub use Rattle.vale_syntax.specs.Parse.{◌>>=◌ as bind}
+pub use Rattle.vale_syntax.specs.Options.{◌>>=◌ as bind}
 
 -- a thing at the front, and the tokens behind it
 abbrev pub Parser : Type 0 → Type 0
@@ -25,12 +25,12 @@ unfoldable pub commas : {A : Type 0} → Parser A → ℕ → List A → List To
 commas item zero xs ts = Some (xs, ts)
 commas item (suc n) xs ts = if is_mark mark.Comma (peek ts) then bind (item (drop 1 ts)) (λ p. commas item n (xs ++ p.0 ∷ []) p.1) else Some (xs, ts)
 
-abbrev pub separated : {A : Type 0} → Parser A → Parser (List A)
-separated item ts = bind (item ts) (λ p. commas item (length ts) (p.0 ∷ []) p.1)
+abbrev pub comma_list : {A : Type 0} → Parser A → Parser (List A)
+comma_list item ts = bind (item ts) (λ p. commas item (length ts) (p.0 ∷ []) p.1)
 
 -- things joined by commas, and the closing round bracket
-abbrev pub closed : {A : Type 0} → Parser A → Parser (List A)
-closed item ts = if is_mark mark.RoundClose (peek ts) then Some ([], drop 1 ts) else before mark.RoundClose (separated item ts)
+abbrev pub closed_list : {A : Type 0} → Parser A → Parser (List A)
+closed_list item ts = if is_mark mark.RoundClose (peek ts) then Some ([], drop 1 ts) else before mark.RoundClose (comma_list item ts)
 
 -- the things that go on with a token that begins one, of which at most so many are left
 unfoldable pub many : {A : Type 0} → (Lookahead → Bool) → Parser A → ℕ → List A → List Token → Option (List A × List Token)

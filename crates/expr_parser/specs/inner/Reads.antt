@@ -3,8 +3,10 @@ use Rattle.std.specs.Prelude.{List, map, Option, Some}
 use Rattle.vale_syntax.specs.declared.token.Token.{Token}
 use Rattle.vale_syntax.specs.Operators.{any}
 use Rattle.vale_syntax.specs.Expressions.{depth_limit}
-use Rattle.vale_syntax.specs.Parse.{Got, got, GotList, got_list, ◌>>=◌, parse}
-use Rattle.vale_syntax.specs.Trees.{Ex, tree, exs}
+use Rattle.vale_syntax.specs.Options.{◌>>=◌}
+use Rattle.vale_syntax.specs.inner.Parse.{Got, got, GotList, got_list, parse}
+use Rattle.vale_syntax.specs.Trees.{Ex}
+use Rattle.vale_syntax.specs.inner.CodeTrees.{tree, exs}
 use Rattle.expr_parser.specs.declared.nodes.Parsed.{Parsed}
 use Rattle.expr_parser.specs.declared.nodes.ParsedList.{ParsedList}
 
