@@ -2,7 +2,7 @@
 
 ghost use Rattle.std.specs.Prelude.{◌≡◌, ◌≤◌, true, List, [], ℕ, length, map, Some};
 ghost use Rattle.std.specs.List.{AllByRecursion};
-ghost use Rattle.vale_syntax.specs.Tokens.{begins, marks, mark_at};
+ghost use Rattle.vale_syntax.specs.Tokens.{begins, marks, mark_at, whole_limit, word_limit};
 ghost use Rattle.vale_syntax.specs.inner.Marks.{mark_len};
 ghost use Rattle.vale_syntax.specs.declared.token.Token.{Token};
 ghost use Rattle.vale_syntax.specs.Operators.{any};
@@ -12,10 +12,17 @@ ghost use Rattle.vale_syntax.specs.inner.Parse.{whole_parse};
 ghost use Rattle.vale_syntax.specs.inner.Print.{text, IsWritable, IsTextOf};
 
 use crate::mark::MARKS;
+use crate::token::{WHOLE_LIMIT, WORD_LIMIT};
 
 /// The table of marks is that of the definitions.
 pub fn table_of_marks()
     ensures { map (λ m. (m.0.now, m.1)) MARKS ≡ marks }
+{}
+
+/// The limits of numbers are those of the definitions.
+pub fn limits_of_numbers()
+    ensures whole { WHOLE_LIMIT ≡ whole_limit }
+    ensures word { WORD_LIMIT ≡ word_limit }
 {}
 
 /// No mark is empty, and the mark that is taken is the longest: no mark that begins a text is longer than the first of the table that does.

@@ -18,7 +18,10 @@ pub use declaration::{
 };
 pub use expr::{Expr, Name};
 pub use fault::MatchFault;
-pub use laws::{longest_mark, printed_as_spelled, read_as_spelled, spelled_once, table_of_marks};
+pub use laws::{
+    limits_of_numbers, longest_mark, printed_as_spelled, read_as_spelled, spelled_once,
+    table_of_marks,
+};
 pub use lookahead::{Lookahead, is_mark, peek};
 pub use mark::{BinaryOp, MARKS, Mark, UnaryOp};
 pub use print::print_expr;
