@@ -8,7 +8,6 @@ use Rattle.vale_syntax.specs.declared.declaration.Bind.{Bind}
 use Rattle.vale_syntax.specs.declared.declaration.Param.{Param}
 use Rattle.vale_syntax.specs.declared.declaration.ReadPlace.{ReadPlace}
 use Rattle.vale_syntax.specs.Trees.{Ex}
-use Rattle.vale_syntax.specs.inner.CodeTrees.{tree}
 
 -- an argument of a statement
 pub data Ar : Type 0 where
