@@ -52,7 +52,7 @@ fn value(radix: u8, digits: &[u8]) -> Option<u128>
 
 // One digit more.
 fn more(radix: u8, value: u128, byte: u8) -> Option<u128>
-    ensures { result ≡ wide_number (digits_value * radix + digit byte) }
+    ensures { result ≡ wide_number (value * radix + digit byte) }
 {
     value
         .checked_mul(u128::from(radix))?
@@ -74,7 +74,7 @@ fn digit(byte: u8) -> u8
 // A number of some length, by what follows.
 fn suffixed(value: Option<u128>, len: usize, rest: &[u8]) -> Front
     requires { len + length rest.now < 2 ^ 64 }
-    ensures { result ≡ number_by_suffix digits_value len rest.now }
+    ensures { result ≡ number_by_suffix value len rest.now }
 {
     match rest {
         [b'w', ..] => word(value, len + 1),
@@ -84,7 +84,7 @@ fn suffixed(value: Option<u128>, len: usize, rest: &[u8]) -> Front
 }
 
 fn int(value: Option<u128>, len: usize) -> Front
-    ensures { result ≡ number_front whole_limit kind.Int len digits_value }
+    ensures { result ≡ number_front whole_limit kind.Int len value }
 {
     match value {
         Some(n) if n < WHOLE_LIMIT => Front::Taken(TokenKind::Int(n), len),
@@ -93,7 +93,7 @@ fn int(value: Option<u128>, len: usize) -> Front
 }
 
 fn word(value: Option<u128>, len: usize) -> Front
-    ensures { result ≡ number_front word_limit kind.Word len digits_value }
+    ensures { result ≡ number_front word_limit kind.Word len value }
 {
     match value {
         Some(n) if n < WORD_LIMIT => Front::Taken(TokenKind::Word(n as u64), len),
@@ -102,7 +102,7 @@ fn word(value: Option<u128>, len: usize) -> Front
 }
 
 fn wide(value: Option<u128>, len: usize) -> Front
-    ensures { result ≡ number_front wide_limit kind.Wide len digits_value }
+    ensures { result ≡ number_front wide_limit kind.Wide len value }
 {
     match value {
         Some(n) => Front::Taken(TokenKind::Wide(n), len),
