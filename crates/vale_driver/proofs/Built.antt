@@ -39,11 +39,11 @@ use Rattle.straight_line.specs.Form.{has}
 use Rattle.straight_line.specs.inner.Fits.{IsInstruction, IsStraight}
 use Rattle.vale_driver.specs.Certificate.{Pair, Proves}
 use Rattle.vale_driver.specs.Ring.{ring_closes}
-use Rattle.vale_driver.specs.Terms.{is_built}
-use Rattle.vale_driver.specs.Build.{contract_of, is_changed, condition_hyps, condition_goal, steps_of, exports_of, lowered_code}
-use Rattle.vale_driver.specs.Words.{Build}
-use Rattle.vale_driver.specs.Outcome.{BuildFiles, BuildHolds, Accepted, IsBuilt}
-use Rattle.vale_driver.specs.Stops.{SourcesSpell, FileHolds}
+use Rattle.vale_driver.specs.inner.ConditionTerms.{is_built}
+use Rattle.vale_driver.specs.Build.{contract_of, changes_place, condition_hyps, condition_goal, straight_code, exports_of, lowered_code}
+use Rattle.vale_driver.specs.Words.{Build, BuildWords}
+use Rattle.vale_driver.specs.Builds.{BuildFiles, BuildHolds, Accepted, IsBuilt}
+use Rattle.vale_driver.specs.inner.Stops.{SourcesSpell, FileHolds}
 use Rattle.vale_driver.proofs.RingSound.{ring_sound}
 
 module _ (rs : List GeneralReg) where
@@ -101,7 +101,7 @@ module _ (rs : List GeneralReg) where
   formed _ k h = absurd h
 
   -- their code is the machine's
-  forms : (is : List Ins) → has rs Rsp ≡ false → AllByRecursion (IsInstruction rs) is → are_forms (steps_of is) ≡ true
+  forms : (is : List Ins) → has rs Rsp ≡ false → AllByRecursion (IsInstruction rs) is → are_forms (straight_code is) ≡ true
   forms [] k h = refl
   forms (i ∷ is) k h = and_from _ _ (and_from _ _ (formed i k h.0) (no_block i h.0)) (forms is k h.1)
     where
@@ -114,9 +114,9 @@ module _ (rs : List GeneralReg) where
       no_block (Alu Add d (M m)) h = absurd h.1
       no_block _ h = absurd h
 
-  no_slots : (is : List Ins) → AllByRecursion (IsInstruction rs) is → slots (steps_of is) 0 ≡ Some 0
+  no_slots : (is : List Ins) → AllByRecursion (IsInstruction rs) is → slots (straight_code is) 0 ≡ Some 0
   no_slots [] h = refl
-  no_slots (i ∷ is) h = ap (λ o. option_and_then (slots (steps_of is)) o) (none_pushed i h.0) ∙ no_slots is h.1
+  no_slots (i ∷ is) h = ap (λ o. option_and_then (slots (straight_code is)) o) (none_pushed i h.0) ∙ no_slots is h.1
     where
       none_pushed : (i : Ins) → IsInstruction rs i → slots_after i 0 ≡ Some 0
       none_pushed (Mov d s) h = refl
@@ -124,20 +124,20 @@ module _ (rs : List GeneralReg) where
       none_pushed _ h = absurd h
 
 -- as many nodes as instructions, and no labels
-node_count : (is : List Ins) → nodes (steps_of is) ≡ length is
+node_count : (is : List Ins) → nodes (straight_code is) ≡ length is
 node_count [] = refl
 node_count (i ∷ is) = let e = node_count is in omega (arith, e)
 
-pub no_labels : (is : List Ins) → labels (steps_of is) ≡ 0
+pub no_labels : (is : List Ins) → labels (straight_code is) ≡ 0
 no_labels [] = refl
 no_labels (i ∷ is) = no_labels is
 
-pub code_is : (k : ℕ) (is : List Ins) → code_items k (steps_of is) ≡ map item.Ins is
+pub code_is : (k : ℕ) (is : List Ins) → code_items k (straight_code is) ≡ map item.Ins is
 code_is k [] = refl
 code_is k (i ∷ is) = ap (λ l. item.Ins i ∷ l) (code_is k is)
 
 -- the code of nodes that are instructions without a block
-pub nodes_are : (is : List Ins) → prog (map (λ i. node.Ins i None) is) ≡ steps_of is
+pub nodes_are : (is : List Ins) → prog (map (λ i. node.Ins i None) is) ≡ straight_code is
 nodes_are [] = refl
 nodes_are (i ∷ is) =
     ap (λ n. node_tree n (prog (map (λ j. node.Ins j None) is))) (sym (node.rolls-Ins i None))
@@ -147,12 +147,12 @@ nodes_are (i ∷ is) =
 -- straight code as it is lowered
 pub straight_lowered : (p : StraightLine) → lowered_code p ≡ straight_items p.export p.instructions
 straight_lowered p =
-    append-nil (export_items 0 p.export (steps_of p.instructions))
+    append-nil (export_items 0 p.export (straight_code p.instructions))
     ∙ ap (λ l. item.Entry p.export ∷ (l ++ item.Ret ∷ [])) (code_is 0 p.instructions)
 
-declared : (p : StraightLine) (is : List Ins) (q : Place) → AllByRecursion (IsInstruction p.registers) is → is_changed p q ≡ false → unwritten is q ≡ true
+declared : (p : StraightLine) (is : List Ins) (q : Place) → AllByRecursion (IsInstruction p.registers) is → changes_place p q ≡ false → unwritten is q ≡ true
 declared p [] q h out = refl
-declared p (i ∷ is) q h out = and_from _ _ (unwritten_by p.registers i q h.0 (is_changed p) (λ r. refl) (λ f. refl) out) (declared p is q h.1 out)
+declared p (i ∷ is) q h out = and_from _ _ (unwritten_by p.registers i q h.0 (changes_place p) (λ r. refl) (λ f. refl) out) (declared p is q h.1 out)
 
 fits : (p : StraightLine) (ps : List Pair) → IsStraight p → ring_closes (condition_hyps p) (condition_goal p) ps ≡ true → StraightFits p.instructions (contract_of p)
 fits p ps ok closes = record {
@@ -168,7 +168,7 @@ exports p ok =
     let few = ok.few in
     let count = node_count p.instructions in
     let none = no_labels p.instructions in
-    let small = lt-ltb (nodes (steps_of p.instructions)) (2 ^ 32) (omega (arith, count, few)) in
+    let small = lt-ltb (nodes (straight_code p.instructions)) (2 ^ 32) (omega (arith, count, few)) in
     let pushed = ap none_left (no_slots p.registers p.instructions ok.each) in
     record {
       names = and_from _ _ ok.export refl;
@@ -180,7 +180,7 @@ exports p ok =
 pub program : (p : StraightLine) → IsStraight p → program_ok (lowered_code p) ≡ true
 program p ok = is_program (exports_of p) (exports p ok)
 
-pub built : (tells : List ℕ → Option (List ℕ)) (b : Build) (h : BuildFiles) (p : StraightLine) (ps : List Pair) (text : List ℕ) → IsStraight p → BuildHolds tells b h → Accepted b h p ps → text ≡ gas_text (lowered_code p) → IsBuilt tells b text
+pub built : (tells : List ℕ → Option (List ℕ)) (b : BuildWords) (h : BuildFiles) (p : StraightLine) (ps : List Pair) (text : List ℕ) → IsStraight p → BuildHolds tells b h → Accepted b h p ps → text ≡ gas_text (lowered_code p) → IsBuilt tells b text
 built tells b h p ps text ok holds accepted e =
     let reads : ReadsAs text (lowered_code p) = record { program = program p ok; is = sym e } in
     let closed = fits p ps ok accepted.closes in
@@ -190,10 +190,12 @@ built tells b h p ps text ok holds accepted e =
       program = p;
       steps = ps;
       accepted = accepted;
-      reads = reads;
-      reads_only = λ items k. one_list text items (lowered_code p) k reads;
-      meets = subst (λ l. Meets (contract_of p) l 0) (sym (straight_lowered p)) (straight_meets p.export p.instructions (contract_of p) closed);
-      same_runs = subst (λ l. SameRuns (contract_of p) l 0) (sym (straight_lowered p)) (straight_runs p.export p.instructions (contract_of p) closed);
+      right = record {
+        reads = reads;
+        reads_only = λ items k. one_list text items (lowered_code p) k reads;
+        meets = subst (λ l. Meets (contract_of p) l 0) (sym (straight_lowered p)) (straight_meets p.export p.instructions (contract_of p) closed);
+        same_runs = subst (λ l. SameRuns (contract_of p) l 0) (sym (straight_lowered p)) (straight_runs p.export p.instructions (contract_of p) closed);
+      };
     }
 
 pub built_from : (tells : List ℕ → Option (List ℕ)) (told : Option (List ℕ)) (cert : List ℕ) (files : List (List ℕ)) (p : StraightLine) (ps : List Pair) (text : List ℕ) → IsStraight p → SourcesSpell tells files p → told ≡ tells cert → FileHolds told (λ c. Proves c p.name ps) → ring_closes (condition_hyps p) (condition_goal p) ps ≡ true → text ≡ gas_text (lowered_code p) → IsBuilt tells (record { cert = cert; files = files }) text

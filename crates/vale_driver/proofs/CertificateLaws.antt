@@ -5,8 +5,10 @@ use Rattle.std.specs.List.{AllByRecursion}
 use Rattle.std.proofs.lemmas.Bool.{leb-true, le-leb, false≢true, eqb-true}
 use Rattle.std.proofs.Common.{length-append}
 use Rattle.std.proofs.lemmas.Option.{same_Some}
-use Rattle.vale_driver.specs.Reading.{◌>>=◌, given, strip, number_at}
-use Rattle.vale_driver.specs.Certificate.{Pair, FitsPair, hypothesis_limit, pair_text, more_text, pairs_text, certificate_text, pair_at, more_at, with_pairs, behind_comma, begins_pair, pairs_at, opening_at, certificate_at, last, ends}
+use Rattle.vale_driver.specs.inner.Fronts.{◌>>=◌, strip, number_at}
+use Rattle.vale_driver.specs.Words.{value_if}
+use Rattle.vale_driver.specs.Certificate.{Pair, FitsPair, hypothesis_limit, pair_text, more_text, pairs_text, certificate_text, last}
+use Rattle.vale_driver.specs.inner.CertificateFront.{pair_at, more_at, with_pairs, behind_comma, begins_pair, pairs_at, opening_at, certificate_at, ends}
 use Rattle.vale_driver.proofs.Pieces.{bind_some, given_some, strip_is, strip_takes, takes, number_is, number_takes}
 
 abbrev PairOf : Type 0
@@ -42,11 +44,11 @@ pair_takes p rest fits =
     let r1 = codes "," ++ r2 in
     let wide : p.0 < 2 ^ 64 = omega arith in
     takes (codes "[") (decimal p.0 ++ r1) _
-    ∙ ap (λ o. o >>= λ i. strip (codes ",") i.1 >>= λ b. number_at b >>= λ f. strip (codes "]") f.1 >>= λ c. given (nat_le i.0 hypothesis_limit) ((i.0, f.0), c)) (number_takes p.0 r1 wide refl)
+    ∙ ap (λ o. o >>= λ i. strip (codes ",") i.1 >>= λ b. number_at b >>= λ f. strip (codes "]") f.1 >>= λ c. value_if (nat_le i.0 hypothesis_limit) ((i.0, f.0), c)) (number_takes p.0 r1 wide refl)
     ∙ takes (codes ",") r2 _
-    ∙ ap (λ o. o >>= λ f. strip (codes "]") f.1 >>= λ c. given (nat_le p.0 hypothesis_limit) ((p.0, f.0), c)) (number_takes p.1 r3 fits.1 refl)
+    ∙ ap (λ o. o >>= λ f. strip (codes "]") f.1 >>= λ c. value_if (nat_le p.0 hypothesis_limit) ((p.0, f.0), c)) (number_takes p.1 r3 fits.1 refl)
     ∙ takes (codes "]") rest _
-    ∙ ap (λ t. given t (p, rest)) (le-leb p.0 hypothesis_limit fits.0)
+    ∙ ap (λ t. value_if t (p, rest)) (le-leb p.0 hypothesis_limit fits.0)
 
 -- one more pair in front
 one_more : (p : Pair) (o : Option PairsOf) (x : PairsOf) → with_pairs (p ∷ []) o ≡ Some x → (ps : List Pair) × (o ≡ Some (ps, x.1)) × (x.0 ≡ p ∷ ps)
@@ -179,8 +181,8 @@ certificate_takes name ps b fits =
     let r3 = codes "]]" ++ last b in
     let r2 = pairs_text ps r3 in
     let r1 = codes "()#0\"}\n[\"ring\",[" ++ r2 in
-    ap (λ o. o >>= λ a. pairs_at a >>= λ p. strip (codes "]]") p.1 >>= λ d. given (ends d) p.0)
+    ap (λ o. o >>= λ a. pairs_at a >>= λ p. strip (codes "]]") p.1 >>= λ d. value_if (ends d) p.0)
     (takes (codes "{\"condition\":\"") (name ++ r1) _ ∙ takes name r1 _ ∙ strip_takes (codes "()#0\"}\n[\"ring\",[") r2)
-    ∙ ap (λ o. o >>= λ p. strip (codes "]]") p.1 >>= λ d. given (ends d) p.0) (pairs_takes ps r3 fits (closing_no_comma (last b)) refl)
+    ∙ ap (λ o. o >>= λ p. strip (codes "]]") p.1 >>= λ d. value_if (ends d) p.0) (pairs_takes ps r3 fits (closing_no_comma (last b)) refl)
     ∙ takes (codes "]]") (last b) _
-    ∙ ap (λ t. given t ps) (last_ends b)
+    ∙ ap (λ t. value_if t ps) (last_ends b)

@@ -9,10 +9,10 @@ use Rattle.vale_syntax.specs.Programs.{De}
 use Rattle.vale_driver.specs.declared.status.Refusal.{Refusal}
 use Rattle.vale_driver.specs.declared.sources.Source.{Source as AFile}
 use Rattle.vale_driver.specs.declared.sources.Scanned.{Scanned}
-use Rattle.vale_driver.specs.Sources.{Source, numbered, FirstOf, IsShort, HasTokens, NoToken}
-use Rattle.vale_driver.specs.Outcome.{EachHolds}
-use Rattle.vale_driver.specs.Terms.{is_built}
-use Rattle.vale_driver.specs.Phases.{seen_all, scan, kept, Parsed, Parses, Unparsed}
+use Rattle.vale_driver.specs.Sources.{Source, sources_from, FirstOf, IsShort, HasTokens, LacksToken}
+use Rattle.vale_driver.specs.Told.{EachAsTold}
+use Rattle.vale_driver.specs.inner.ConditionTerms.{is_built}
+use Rattle.vale_driver.specs.inner.Phases.{source_views, scan, scan_view, Parsed, Parses, Unparsed}
 
 -- The equations so far, and those of what is left, are those of all. Each place was written at most once by each
 -- instruction.
@@ -27,15 +27,15 @@ bytes_of ss = map (λ s. s.bytes.items) ss
 
 -- The files so far hold what is told of them, in front of whatever the rest holds.
 pub record Fetching (tells : List ℕ → Option (List ℕ)) (sources : List AFile) (k : ℕ) (rest all : List (List ℕ)) : Type 0 where
-  pub holds : (cs : List (List ℕ)) → EachHolds tells rest cs → EachHolds tells all (bytes_of sources ++ cs)
-  pub are : (cs : List (List ℕ)) → numbered 0 all (bytes_of sources ++ cs) ≡ seen_all sources ++ numbered k rest cs
-  pub short : AllByRecursion IsShort (seen_all sources)
+  pub holds : (cs : List (List ℕ)) → EachAsTold tells rest cs → EachAsTold tells all (bytes_of sources ++ cs)
+  pub are : (cs : List (List ℕ)) → sources_from 0 all (bytes_of sources ++ cs) ≡ source_views sources ++ sources_from k rest cs
+  pub short : AllByRecursion IsShort (source_views sources)
 
 -- The files so far have their tokens: the first of the rest that is refused is the first of all.
 pub record Scanning (scanned : List Scanned) (rest all : List Source) : Type 0 where
-  pub kept_all : map kept scanned ++ map scan rest ≡ map scan all
+  pub kept_all : map scan_view scanned ++ map scan rest ≡ map scan all
   pub short : AllByRecursion IsShort rest
-  pub first : (r : Refusal) → FirstOf HasTokens NoToken rest r → FirstOf HasTokens NoToken all r
+  pub first : (r : Refusal) → FirstOf HasTokens LacksToken rest r → FirstOf HasTokens LacksToken all r
 
 -- The declarations so far are those of the files so far: the first of the rest that is refused is the first of all.
 pub record Parsing (decls : List De) (rest all : List Scanned) : Type 0 where

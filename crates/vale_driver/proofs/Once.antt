@@ -15,14 +15,18 @@ use Rattle.vale_parser.proofs.Whole as decls
 use Rattle.straight_line.specs.declared.form.StraightLine.{StraightLine}
 use Rattle.straight_line.specs.Form.{straight_line}
 use Rattle.vale_driver.specs.declared.status.Refusal.{Refusal}
-use Rattle.vale_driver.specs.Certificate.{Pair, Proves, certificate_at}
+use Rattle.vale_driver.specs.Certificate.{Pair, Proves}
+use Rattle.vale_driver.specs.inner.CertificateFront.{certificate_at}
 use Rattle.vale_driver.specs.Ring.{ring_closes}
 use Rattle.vale_driver.specs.Build.{condition_hyps, condition_goal}
-use Rattle.vale_driver.specs.Sources.{Source, refusal, cause_of, FirstOf, Phase, now, later, IsShort, TooLong, HasTokens, NoToken, IsRead, HasDecls, NotADecl, Declared, Spells, NoForm}
-use Rattle.vale_driver.specs.Words.{Build}
-use Rattle.vale_driver.specs.Outcome.{BuildFiles, EachHolds, BuildHolds, BuildTold, sources_of, Behind, no_form, no_certificate, no_step, CertificateRefused, step_refusal, BuildRefusal, Accepted}
+use Rattle.vale_driver.specs.Sources.{Source, FirstOf, Phase, now, later, IsShort, IsTooLong, HasTokens, LacksToken, IsRead, HasDecls, LacksDeclaration, Declared, Spells, AreNoForm}
+use Rattle.vale_driver.specs.Words.{Build, BuildWords}
+use Rattle.vale_driver.specs.Builds.{BuildFiles, BuildHolds, BuildTold, sources_of, Behind, no_form, no_certificate, no_step, CertificateRefused, BuildRefusal, Accepted}
+use Rattle.vale_driver.specs.Told.{EachAsTold}
+use Rattle.vale_driver.specs.Causes.{refusal_of}
 use Rattle.vale_driver.proofs.Files.{tokens_of, are_read}
 use Rattle.vale_driver.proofs.CertificateLaws.{certificate_takes}
+use Rattle.vale_driver.specs.Causes as cause
 
 module _ {A : Type 0} (P : A → Type 0) (R : A → Refusal → Type 0) (apart : (x : A) (r : Refusal) → P x → R x r → ⊥) where
   none_of : (xs : List A) (r : Refusal) → AllByRecursion P xs → FirstOf P R xs r → ⊥
@@ -49,37 +53,37 @@ module _ {A : Type 0} (P : A → Type 0) (R : A → Refusal → Type 0) (apart :
   phase_none xs Later r all go (later too h) = go h
 
 -- sizes
-short_apart : (s : Source) (r : Refusal) → IsShort s → TooLong s r → ⊥
+short_apart : (s : Source) (r : Refusal) → IsShort s → IsTooLong s r → ⊥
 short_apart s r short h = let long = h.long in omega (arith, short, long)
 
-long_once : (s : Source) (r q : Refusal) → TooLong s r → TooLong s q → r ≡ q
+long_once : (s : Source) (r q : Refusal) → IsTooLong s r → IsTooLong s q → r ≡ q
 long_once s r q h k = h.is ∙ sym k.is
 
 -- tokens
-tokens_apart : (s : Source) (r : Refusal) → HasTokens s → NoToken s r → ⊥
+tokens_apart : (s : Source) (r : Refusal) → HasTokens s → LacksToken s r → ⊥
 tokens_apart s r h k = differ (sym h.all ∙ k.nothing) where
   differ : {ts : List Token} {why : NotAToken} {at : ℕ} → All ts ≡ Nothing why at → ⊥
   differ e = absurd cc
 
-token_once : (s : Source) (r q : Refusal) → NoToken s r → NoToken s q → r ≡ q
+token_once : (s : Source) (r q : Refusal) → LacksToken s r → LacksToken s q → r ≡ q
 token_once s r q h k = h.is ∙ same (sym h.nothing ∙ k.nothing) ∙ sym k.is where
-  same : {why other : NotAToken} {at place : ℕ} → Nothing why at ≡ Nothing other place → refusal 1 (Some s.name) (Some at) (cause_of why) ≡ refusal 1 (Some s.name) (Some place) (cause_of other)
+  same : {why other : NotAToken} {at place : ℕ} → Nothing why at ≡ Nothing other place → refusal_of (cause.NoToken s.name at why) ≡ refusal_of (cause.NoToken s.name place other)
   same e = cc
 
 -- declarations
 same_tokens : {ts us : List Token} → All ts ≡ All us → ts ≡ us
 same_tokens e = cc
 
-decls_apart : (s : Source) (r : Refusal) → IsRead s → NotADecl s r → ⊥
+decls_apart : (s : Source) (r : Refusal) → IsRead s → LacksDeclaration s r → ⊥
 decls_apart s r h k =
     let e = same_tokens (sym (h.1.all) ∙ k.all) in
     decls.either k.tokens h.0 k.first (subst (λ ts. AreDecls ts h.0) e h.1.are) k.stops
 
-decl_once : (s : Source) (r q : Refusal) → NotADecl s r → NotADecl s q → r ≡ q
+decl_once : (s : Source) (r q : Refusal) → LacksDeclaration s r → LacksDeclaration s q → r ≡ q
 decl_once s r q h k =
     let e = same_tokens (sym h.all ∙ k.all) in
     let same = decls.place k.tokens h.first k.first (subst (λ ts. StopsAt ts h.first) e h.stops) k.stops in
-    h.is ∙ ap (λ (p : Spot). refusal 2 (Some s.name) (Some p.at) (codes "NotADecl")) same ∙ sym k.is
+    h.is ∙ ap (λ (p : Spot). refusal_of (cause.NoDeclaration s.name p.at)) same ∙ sym k.is
 
 decls_once : (s : Source) (xs ys : List De) → HasDecls s xs → HasDecls s ys → xs ≡ ys
 decls_once s xs ys h k =
@@ -96,7 +100,7 @@ declared_once (s ∷ ss) xs ys h k =
 spells_once : (ss : List Source) (p q : StraightLine) → Spells ss p → Spells ss q → p ≡ q
 spells_once ss p q h k = same_Some _ _ (sym h.is_form ∙ ap straight_line (declared_once ss h.decls k.decls h.declared k.declared) ∙ k.is_form)
 
-form_apart : (ss : List Source) (file : Option (List ℕ)) (p : StraightLine) (r : Refusal) → Spells ss p → NoForm file ss r → ⊥
+form_apart : (ss : List Source) (file : Option (List ℕ)) (p : StraightLine) (r : Refusal) → Spells ss p → AreNoForm file ss r → ⊥
 form_apart ss file p r h k = differ (sym h.is_form ∙ ap straight_line (declared_once ss h.decls k.decls h.declared k.declared) ∙ k.none) where
   differ : {a : StraightLine} → Some a ≡ None → ⊥
   differ e = absurd cc
@@ -105,7 +109,7 @@ proves_once : (c name : List ℕ) (ps qs : List Pair) → Proves c name ps → P
 proves_once c name ps qs h k =
     same_Some _ _ (sym (certificate_takes name ps h.newline h.fits) ∙ ap (certificate_at name) (sym h.text_is ∙ k.text_is) ∙ certificate_takes name qs k.newline k.fits)
 
-module _ (b : Build) (h : BuildFiles) where
+module _ (b : BuildWords) (h : BuildFiles) where
   certificate_apart : (p : StraightLine) (ps : List Pair) (r : Refusal) → Spells (sources_of b h) p → Proves h.cert p.name ps → CertificateRefused b h r → ⊥
   certificate_apart p ps r spells proves k =
       let e = spells_once (sources_of b h) p k.program spells k.spells in
@@ -126,13 +130,13 @@ module _ (b : Build) (h : BuildFiles) where
   behind_once r q (no_certificate x) (no_step y) = absurd (certificate_apart y.program y.steps r y.spells y.proves x)
   behind_once r q (no_step x) (no_form y) = absurd (form_apart (sources_of b h) _ x.program q x.spells y)
   behind_once r q (no_step x) (no_certificate y) = absurd (certificate_apart x.program x.steps q x.spells x.proves y)
-  behind_once r q (no_step x) (no_step y) = x.is ∙ ap (λ (p : StraightLine). step_refusal b.cert p.name) (spells_once (sources_of b h) x.program y.program x.spells y.spells) ∙ sym y.is
+  behind_once r q (no_step x) (no_step y) = x.is ∙ ap (λ (p : StraightLine). refusal_of (cause.NoStep b.cert p.name)) (spells_once (sources_of b h) x.program y.program x.spells y.spells) ∙ sym y.is
 
   pub refused_once : (r q : Refusal) → BuildRefusal b h r → BuildRefusal b h q → r ≡ q
   refused_once r q x y =
-      phase_once IsShort TooLong short_apart long_once (sources_of b h) _
-      (phase_once HasTokens NoToken tokens_apart token_once (sources_of b h) _
-      (phase_once IsRead NotADecl decls_apart decl_once (sources_of b h) _ behind_once)) r q x y
+      phase_once IsShort IsTooLong short_apart long_once (sources_of b h) _
+      (phase_once HasTokens LacksToken tokens_apart token_once (sources_of b h) _
+      (phase_once IsRead LacksDeclaration decls_apart decl_once (sources_of b h) _ behind_once)) r q x y
 
   behind_none : (p : StraightLine) (ps : List Pair) (r : Refusal) → Accepted b h p ps → Behind b h r → ⊥
   behind_none p ps r a (no_form x) = form_apart (sources_of b h) _ p r a.spells x
@@ -141,12 +145,12 @@ module _ (b : Build) (h : BuildFiles) where
 
   pub accepted_none : (p : StraightLine) (ps : List Pair) (r : Refusal) → Accepted b h p ps → BuildRefusal b h r → ⊥
   accepted_none p ps r a x =
-      phase_none IsShort TooLong short_apart (sources_of b h) _ r a.short
-      (phase_none HasTokens NoToken tokens_apart (sources_of b h) _ r (tokens_of (sources_of b h) a.spells.decls a.spells.declared)
-      (phase_none IsRead NotADecl decls_apart (sources_of b h) _ r (are_read (sources_of b h) a.spells.decls a.spells.declared) (behind_none p ps r a))) x
+      phase_none IsShort IsTooLong short_apart (sources_of b h) _ r a.short
+      (phase_none HasTokens LacksToken tokens_apart (sources_of b h) _ r (tokens_of (sources_of b h) a.spells.decls a.spells.declared)
+      (phase_none IsRead LacksDeclaration decls_apart (sources_of b h) _ r (are_read (sources_of b h) a.spells.decls a.spells.declared) (behind_none p ps r a))) x
 
 -- what a told file holds is what is told of it
-told_same : (tells : List ℕ → Option (List ℕ)) (files xs ys : List (List ℕ)) → map tells files ≡ map Some xs → EachHolds tells files ys → ys ≡ xs
+told_same : (tells : List ℕ → Option (List ℕ)) (files xs ys : List (List ℕ)) → map tells files ≡ map Some xs → EachAsTold tells files ys → ys ≡ xs
 told_same tells [] [] [] e h = refl
 told_same tells [] [] (y ∷ ys) e h = absurd h
 told_same tells [] (x ∷ xs) [] e h = absurd cc
@@ -159,7 +163,7 @@ told_same tells (n ∷ ns) (x ∷ xs) (y ∷ ys) e h =
     let same : y ≡ x = subst (λ o. IfSome o (λ told. y ≡ told)) first h.0 in
     ap (λ z. z ∷ ys) same ∙ ap (λ l. x ∷ l) (told_same tells ns xs ys rest h.1)
 
-pub held_same : (tells : List ℕ → Option (List ℕ)) (b : Build) (h k : BuildFiles) → BuildTold tells b h → BuildHolds tells b k → k ≡ h
+pub held_same : (tells : List ℕ → Option (List ℕ)) (b : BuildWords) (h k : BuildFiles) → BuildTold tells b h → BuildHolds tells b k → k ≡ h
 held_same tells b h k t s =
     let sources = told_same tells b.files h.sources k.sources t.sources s.sources in
     let cert = subst (λ o. IfSome o (λ told. k.cert ≡ told)) t.cert s.cert in

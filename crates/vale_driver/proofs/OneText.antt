@@ -12,9 +12,10 @@ use Rattle.gas_text.proofs.OneFault.{one_fault}
 use Rattle.x64_evaluator.specs.StateFile.{lines_of}
 use Rattle.x64_evaluator.proofs.OneState.{one_stop, no_stop}
 use Rattle.vale_driver.specs.declared.status.Refusal.{Refusal}
-use Rattle.vale_driver.specs.Sources.{refusal}
-use Rattle.vale_driver.specs.Words.{Evaluation}
-use Rattle.vale_driver.specs.Listed.{TextRefused, long_text, line_text, label_text, TextRead, is_wide, is_named, WideRefused, Begun, StateRefused, long_state, line_state, BegunRefused, by_text, wide, nowhere, EvaluationRefused, before, behind, IsEvaluated}
+use Rattle.vale_driver.specs.Texts.{TextRefused, long_text, line_text, label_text, TextRead, is_wide, is_named, WideRefused, Begun, StateRefused, long_state, line_state, BegunRefused, by_text, wide, nowhere, EvalRefused, before, behind, IsReport}
+use Rattle.vale_driver.specs.Words.{EvalWords}
+use Rattle.vale_driver.specs.Causes as cause
+use Rattle.vale_driver.specs.Causes.{Cause, refusal_of}
 
 -- two faults of a text are one
 line_same : (text : List ℕ) (m n : ℕ) → BadLine text m → BadLine text n → m ≡ n
@@ -59,8 +60,9 @@ not_both text m n h k = by (one_fault text (asm.Line m) (asm.Label n) h k) where
   by (inr (inl e)) = no_line e
   by (inr (inr e)) = no_label e
 
-at_line : (file : List ℕ) (cause : List ℕ) (m n : ℕ) → m ≡ n → refusal 12 (Some file) (Some m) cause ≡ refusal 12 (Some file) (Some n) cause
-at_line file cause m n e = ap (λ k. refusal 12 (Some file) (Some k) cause) e
+-- causes of one line are one
+at_line : (because : ℕ → Cause) (m n : ℕ) → m ≡ n → refusal_of (because m) ≡ refusal_of (because n)
+at_line because m n e = ap (λ k. refusal_of (because k)) e
 
 pub text_once : (file text : List ℕ) (r q : Refusal) → TextRefused file text r → TextRefused file text q → r ≡ q
 text_once file text r q (long_text l is) (long_text l' is') = is ∙ sym is'
@@ -68,8 +70,8 @@ text_once file text r q (long_text l is) (line_text s n b is') = absurd (omega (
 text_once file text r q (long_text l is) (label_text s n b is') = absurd (omega (arith, l, s))
 text_once file text r q (line_text s n b is) (long_text l is') = absurd (omega (arith, l, s))
 text_once file text r q (label_text s n b is) (long_text l is') = absurd (omega (arith, l, s))
-text_once file text r q (line_text s n b is) (line_text s' n' b' is') = is ∙ at_line file (codes "Line") n n' (line_same text n n' b b') ∙ sym is'
-text_once file text r q (label_text s n b is) (label_text s' n' b' is') = is ∙ at_line file (codes "Label") n n' (label_same text n n' b b') ∙ sym is'
+text_once file text r q (line_text s n b is) (line_text s' n' b' is') = is ∙ at_line (cause.NoLine file) n n' (line_same text n n' b b') ∙ sym is'
+text_once file text r q (label_text s n b is) (label_text s' n' b' is') = is ∙ at_line (cause.NoLabel file) n n' (label_same text n n' b b') ∙ sym is'
 text_once file text r q (line_text s n b is) (label_text s' n' b' is') = absurd (not_both text n n' b b')
 text_once file text r q (label_text s n b is) (line_text s' n' b' is') = absurd (not_both text n' n b' b)
 
@@ -106,10 +108,10 @@ wide_once file text r q h k =
     let same = items_same text h.items k.items h.read k.read in
     let place = same_Some _ _ (sym h.first ∙ ap (position is_wide) same ∙ k.first) in
     h.is
-    ∙ at_line file (codes "NotBuilt") _ _ (ap (λ is. newlines (gas_text (take h.place is)) + 1) same ∙ ap (λ n. newlines (gas_text (take n k.items)) + 1) place)
+    ∙ at_line (cause.WideInstruction file) _ _ (ap (λ is. newlines (gas_text (take h.place is)) + 1) same ∙ ap (λ n. newlines (gas_text (take n k.items)) + 1) place)
     ∙ sym k.is
 
-module _ (e : Evaluation) (text : List ℕ) where
+module _ (e : EvalWords) (text : List ℕ) where
   wide_apart : (items : List Item) (entry : Option ℕ) (r : Refusal) → Begun e text items entry → WideRefused e.text text r → ⊥
   wide_apart items entry r b w = no_place (sym w.first ∙ ap (position is_wide) (items_same text w.items items w.read b.read) ∙ b.general)
 
@@ -137,15 +139,15 @@ state_once file st r q (long_state l is) (long_state l' is') = is ∙ sym is'
 state_once file st r q (long_state l is) (line_state s n b is') = absurd (omega (arith, l, s))
 state_once file st r q (line_state s n b is) (long_state l is') = absurd (omega (arith, l, s))
 state_once file st r q (line_state s n b is) (line_state s' n' b' is') =
-    is ∙ ap (λ k. refusal 13 (Some file) (Some k) (codes "State")) (one_stop (lines_of st) n n' b b') ∙ sym is'
+    is ∙ ap (λ k. refusal_of (cause.NoSetting file k)) (one_stop (lines_of st) n n' b b') ∙ sym is'
 
-pub evaluation_once : (e : Evaluation) (text st : List ℕ) (r q : Refusal) → EvaluationRefused e text st r → EvaluationRefused e text st q → r ≡ q
-evaluation_once e text st r q (before x) (before y) = begun_once e text r q x y
-evaluation_once e text st r q (before x) (behind items at b y) = absurd (begun_none e text items at r b x)
-evaluation_once e text st r q (behind items at b x) (before y) = absurd (begun_none e text items at q b y)
-evaluation_once e text st r q (behind items at b x) (behind items' at' b' y) = state_once e.state st r q x y
+pub eval_once : (e : EvalWords) (text st : List ℕ) (r q : Refusal) → EvalRefused e text st r → EvalRefused e text st q → r ≡ q
+eval_once e text st r q (before x) (before y) = begun_once e text r q x y
+eval_once e text st r q (before x) (behind items at b y) = absurd (begun_none e text items at r b x)
+eval_once e text st r q (behind items at b x) (before y) = absurd (begun_none e text items at q b y)
+eval_once e text st r q (behind items at b x) (behind items' at' b' y) = state_once e.state st r q x y
 
-pub evaluation_none : (e : Evaluation) (text st : List ℕ) (r : Refusal) (out : List ℕ) → IsEvaluated e text st out → EvaluationRefused e text st r → ⊥
-evaluation_none e text st r out w (before x) = begun_none e text w.items w.at r w.begun x
-evaluation_none e text st r out w (behind items at b (long_state l is)) = let s = w.read.short in omega (arith, l, s)
-evaluation_none e text st r out w (behind items at b (line_state s n stop is)) = no_stop (lines_of st) w.start n w.read.is stop
+pub eval_none : (e : EvalWords) (text st : List ℕ) (r : Refusal) (out : List ℕ) → IsReport e text st out → EvalRefused e text st r → ⊥
+eval_none e text st r out w (before x) = begun_none e text w.items w.at r w.begun x
+eval_none e text st r out w (behind items at b (long_state l is)) = let s = w.read.short in omega (arith, l, s)
+eval_none e text st r out w (behind items at b (line_state s n stop is)) = no_stop (lines_of st) w.start n w.read.is stop

@@ -6,8 +6,7 @@ use Rattle.std.specs.declared.alloc.Global.{Global}
 use Rattle.std.proofs.lemmas.Bool.{lt-ltb, le-ltb}
 use Rattle.std.proofs.lemmas.List.{take_all}
 use Rattle.std.proofs.lemmas.Str.Pattern.{IsSplitOnceResult, split_once_first}
-use Rattle.vale_driver.specs.Words.{Options, with_option, is_option, has_equals, name_of, value_of, read_options, eval_form, is_eval, one_file, eval_file, steps_of}
-use Rattle.vale_driver.specs.Phases.{texts}
+use Rattle.vale_driver.specs.Words.{Options, with_option, is_option, has_equals, name_of, value_of, read_options, eval_form, is_eval_command, one_file, eval_file, step_count, texts}
 
 -- a list by its first item and the rest
 pub split_first : {X : Type 0} (xs : List X) (x : X) → 1 ≤ length xs → x ≡ get_or xs 0 x → xs ≡ x ∷ take (length xs - 1) (drop 1 xs)
@@ -47,7 +46,7 @@ cut_nowhere w h =
     le-ltb _ _ (omega (arith, p))
 
 -- a run without a number of steps
-pub no_steps : (o : Options) (files : List (List ℕ)) (file entry state steps : List ℕ) → is_eval o ≡ true → one_file files ≡ Some file → o.entry ≡ Some entry → o.state ≡ Some state → o.steps ≡ Some steps → steps_of steps ≡ None → eval_form o files ≡ None
+pub no_steps : (o : Options) (files : List (List ℕ)) (file entry state steps : List ℕ) → is_eval_command o ≡ true → one_file files ≡ Some file → o.entry ≡ Some entry → o.state ≡ Some state → o.steps ≡ Some steps → step_count steps ≡ None → eval_form o files ≡ None
 no_steps o files file entry state steps h f e s n none =
     ap (λ (b : Bool). if b then option_and_then (λ file. eval_file o.entry o.state o.steps file) (one_file files) else None) h
     ∙ ap (option_and_then (λ file. eval_file o.entry o.state o.steps file)) f

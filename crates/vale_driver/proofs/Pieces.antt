@@ -7,11 +7,12 @@ use Rattle.std.proofs.lemmas.Fmt.{decimal_by_steps}
 use Rattle.std.proofs.lemmas.List.{take-append-drop}
 use Rattle.std.proofs.Math.Seq.{take-append_seam, drop-append_seam}
 use Rattle.x64_syntax.specs.Words.{is_digit_byte}
-use Rattle.vale_driver.specs.Reading.{◌>>=◌, given, strip, span, number_of, number_at}
+use Rattle.vale_driver.specs.inner.Fronts.{◌>>=◌, strip, span, number_of, number_at}
+use Rattle.vale_driver.specs.Words.{value_if}
 pub use Rattle.vale_syntax.proofs.Sound.{bind_some}
 use Rattle.vale_driver.proofs.Numbers.{number_of-decimal}
 
-pub given_some : {A : Type 0} (b : Bool) (x y : A) → given b x ≡ Some y → (b ≡ true) × (x ≡ y)
+pub given_some : {A : Type 0} (b : Bool) (x y : A) → value_if b x ≡ Some y → (b ≡ true) × (x ≡ y)
 given_some true x y h = (refl, cc)
 given_some false x y h = absurd cc
 
@@ -26,7 +27,7 @@ strip_is l bytes rest h =
 pub strip_takes : (l rest : List ℕ) → strip l (l ++ rest) ≡ Some rest
 unfolding strip
 strip_takes l rest =
-    ap (λ b. given b (drop (length l) (l ++ rest))) ((bytes_eq-Decides _ l).1 (take-append_seam l rest))
+    ap (λ b. value_if b (drop (length l) (l ++ rest))) ((bytes_eq-Decides _ l).1 (take-append_seam l rest))
     ∙ ap Some (drop-append_seam l rest)
 
 pub takes : {B : Type 0} (l rest : List ℕ) (f : List ℕ → Option B) → (strip l (l ++ rest) >>= f) ≡ f rest

@@ -17,7 +17,7 @@ use Rattle.x64_meaning.specs.Exp.{among}
 use Rattle.x64_meaning.specs.Table.{equations, writes}
 use Rattle.x64_meaning.specs.Condition.{Versions, next_versions, hypothesis, hypotheses, straight_hyps, first_versions, end_versions}
 use Rattle.straight_line.specs.declared.form.StraightLine.{StraightLine}
-use Rattle.vale_driver.specs.Terms.{is_built, versions_of, move_term, sum_term, carry_term, zero_term, sign_term, overflow_term, addition_terms, promise_term}
+use Rattle.vale_driver.specs.inner.ConditionTerms.{is_built, versions_of, move_term, sum_term, carry_term, zero_term, sign_term, overflow_term, addition_terms, promise_term}
 use Rattle.vale_driver.specs.Build.{condition_goal}
 use Rattle.vale_driver.proofs.Going.{Hypotheses}
 

@@ -4,7 +4,9 @@ use Rattle.std.specs.Prelude.{IfOk, Vec}
 use Rattle.std.specs.declared.alloc.Global.{Global}
 use Rattle.vale_driver.specs.declared.certificate.CertificateFault.{CertificateFault}
 use Rattle.vale_driver.specs.declared.certificate.CertificateFault.TheVariants.{NotOfForm, NoMemory}
-use Rattle.vale_driver.specs.Certificate.{Pair, Proves, certificate_limit, certificate_at, Reads}
+use Rattle.vale_driver.specs.Certificate.{Pair, Proves}
+use Rattle.vale_driver.specs.Limits.{certificate_limit}
+use Rattle.vale_driver.specs.inner.CertificateFront.{certificate_at, Reads}
 use Rattle.vale_driver.proofs.CertificateLaws.{certificate_is, certificate_takes}
 
 pub certificate_found : (name bytes : List ℕ) (r : Result (Vec Pair Global) CertificateFault) → Reads (λ v. v.items) (certificate_at name bytes) r → IfOk r (λ v. length bytes ≤ certificate_limit → Proves bytes name v.items)

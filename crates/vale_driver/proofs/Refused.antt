@@ -4,16 +4,19 @@ use Rattle.std.specs.Prelude.{IfSome, Vec, Ok}
 use Rattle.std.specs.declared.alloc.Global.{Global}
 use Rattle.straight_line.specs.declared.form.StraightLine.{StraightLine}
 use Rattle.vale_driver.specs.declared.status.Refusal.{Refusal}
-use Rattle.vale_driver.specs.Certificate.{Pair, Proves, certificate_limit}
+use Rattle.vale_driver.specs.Certificate.{Pair, Proves}
+use Rattle.vale_driver.specs.Limits.{certificate_limit}
 use Rattle.vale_driver.specs.Ring.{ring_closes}
 use Rattle.vale_driver.specs.Build.{condition_hyps, condition_goal}
-use Rattle.vale_driver.specs.Sources.{numbered, later}
-use Rattle.vale_driver.specs.Outcome.{Behind, no_certificate, no_step, certificate_refusal, step_refusal, BuildRefused}
-use Rattle.vale_driver.specs.Stops.{Fetched, SourcesSpell, SourcesRefused, FileHolds, CertificateRefusal}
+use Rattle.vale_driver.specs.Sources.{sources_from, later}
+use Rattle.vale_driver.specs.Builds.{Behind, no_certificate, no_step, BuildRefused}
+use Rattle.vale_driver.specs.inner.Stops.{Fetched, SourcesSpell, SourcesRefused, FileHolds, CertificateRefusal}
+use Rattle.vale_driver.specs.Causes.{refusal_of}
 use Rattle.vale_driver.proofs.Files.{told_or_nothing, is_told, long_bytes, fetched_none, tokens_of, are_read}
+use Rattle.vale_driver.specs.Causes as cause
 
 -- a certificate that is too long isn't of the form
-pub certificate_long : (told : Option (List ℕ)) (cert name : List ℕ) (r : Refusal) (before after : ℕ) (o : Option (Vec ℕ Global)) → ((v : Vec ℕ Global) → o ≡ Some v → ⊥) → Fetched told certificate_limit before after (Ok o) → r ≡ certificate_refusal cert → CertificateRefusal told cert name r
+pub certificate_long : (told : Option (List ℕ)) (cert name : List ℕ) (r : Refusal) (before after : ℕ) (o : Option (Vec ℕ Global)) → ((v : Vec ℕ Global) → o ≡ Some v → ⊥) → Fetched told certificate_limit before after (Ok o) → r ≡ refusal_of (cause.NoCertificate cert) → CertificateRefusal told cert name r
 certificate_long told cert name r before after o gone fetched is =
     let (long, holds, more) = long_bytes certificate_limit told (fetched_none told certificate_limit before after o gone fetched) in
     record {
@@ -36,7 +39,7 @@ behind : (tells : List ℕ → Option (List ℕ)) (cert : List ℕ) (files : Lis
 behind tells cert files p r h held holds k = record {
   held = record { sources = h.contents; cert = held };
   holds = record { sources = h.holds; cert = holds };
-  first = later h.short (later (tokens_of (numbered 0 files h.contents) h.spells.decls h.spells.declared) (later (are_read (numbered 0 files h.contents) h.spells.decls h.spells.declared) k));
+  first = later h.short (later (tokens_of (sources_from 0 files h.contents) h.spells.decls h.spells.declared) (later (are_read (sources_from 0 files h.contents) h.spells.decls h.spells.declared) k));
 }
 
 pub certificate_refused : (tells : List ℕ → Option (List ℕ)) (told : Option (List ℕ)) (cert : List ℕ) (files : List (List ℕ)) (p : StraightLine) (r : Refusal) → SourcesSpell tells files p → told ≡ tells cert → CertificateRefusal told cert p.name r → BuildRefused tells (record { cert = cert; files = files }) r
@@ -44,6 +47,6 @@ certificate_refused tells told cert files p r h same k =
     let c = k.none in
     behind tells cert files p r h c.held (subst (λ o. IfSome o (λ t. c.held ≡ t)) same c.holds) (no_certificate record { program = p; spells = h.spells; not_of_form = c.reads; is = k.is })
 
-pub step_refused : (tells : List ℕ → Option (List ℕ)) (told : Option (List ℕ)) (cert : List ℕ) (files : List (List ℕ)) (p : StraightLine) (ps : List Pair) (r : Refusal) → SourcesSpell tells files p → told ≡ tells cert → FileHolds told (λ c. Proves c p.name ps) → ring_closes (condition_hyps p) (condition_goal p) ps ≡ false → r ≡ step_refusal cert p.name → BuildRefused tells (record { cert = cert; files = files }) r
+pub step_refused : (tells : List ℕ → Option (List ℕ)) (told : Option (List ℕ)) (cert : List ℕ) (files : List (List ℕ)) (p : StraightLine) (ps : List Pair) (r : Refusal) → SourcesSpell tells files p → told ≡ tells cert → FileHolds told (λ c. Proves c p.name ps) → ring_closes (condition_hyps p) (condition_goal p) ps ≡ false → r ≡ refusal_of (cause.NoStep cert p.name) → BuildRefused tells (record { cert = cert; files = files }) r
 step_refused tells told cert files p ps r h same c open_ is =
     behind tells cert files p r h c.held (subst (λ o. IfSome o (λ t. c.held ≡ t)) same c.holds) (no_step record { program = p; steps = ps; spells = h.spells; proves = c.reads; not_closed = open_; is = is })

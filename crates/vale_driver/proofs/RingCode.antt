@@ -10,9 +10,9 @@ use Rattle.term_core.specs.Terms.{Tm, tree, trees}
 use Rattle.term_core.specs.Value.{T}
 use Rattle.vale_driver.specs.declared.ring.Occurring.{Occurring}
 use Rattle.vale_driver.specs.Certificate.{Pair}
-use Rattle.vale_driver.specs.Reading.{◌>>=◌}
-use Rattle.vale_driver.specs.Ring.{Occurrence, same_atom, coefficient, balanced, difference, times, width, width_limit, Sides, sides, Weighted, weighted}
-use Rattle.vale_driver.specs.RingCode.{seen_all, Never, hypothesis_sides_of}
+use Rattle.vale_driver.specs.inner.Fronts.{◌>>=◌}
+use Rattle.vale_driver.specs.Ring.{Occurrence, same_atom, coefficient, is_balanced, difference, times, width, width_limit, Sides, sides, Weighted, weight_of}
+use Rattle.vale_driver.specs.inner.RingCode.{occurrence_views, ClosesNothing, hypothesis_sides_of}
 
 coefficient-lt : (m : Option Tm) (os : List Occurrence) → coefficient m os < T
 coefficient-lt m [] = omega arith
@@ -28,11 +28,11 @@ drop_all (suc n) [] h = refl
 drop_all zero (x ∷ xs) h = absurd (omega arith)
 drop_all (suc n) (x ∷ xs) h = drop_all n xs (omega arith)
 
-pub sum_done : (m : Option Tm) (sum n : ℕ) (all : List Occurring) → sum < T → length all ≤ n → (sum + coefficient m (seen_all (drop n all))) % T ≡ coefficient m (seen_all all) % T → sum ≡ coefficient m (seen_all all)
+pub sum_done : (m : Option Tm) (sum n : ℕ) (all : List Occurring) → sum < T → length all ≤ n → (sum + coefficient m (occurrence_views (drop n all))) % T ≡ coefficient m (occurrence_views all) % T → sum ≡ coefficient m (occurrence_views all)
 sum_done m sum n all lt le h =
     let e : sum ≡ sum + 0 = omega arith in
-    sym (mod-eq_of_lt lt) ∙ ap (λ k. k % T) e ∙ ap (λ (xs : List Occurring). (sum + coefficient m (seen_all xs)) % T) (sym (drop_all n all le)) ∙ h
-    ∙ mod-eq_of_lt (coefficient-lt m (seen_all all))
+    sym (mod-eq_of_lt lt) ∙ ap (λ k. k % T) e ∙ ap (λ (xs : List Occurring). (sum + coefficient m (occurrence_views xs)) % T) (sym (drop_all n all le)) ∙ h
+    ∙ mod-eq_of_lt (coefficient-lt m (occurrence_views all))
 
 -- occurrences and a width in front of others
 abbrev pub in_front : List Occurrence → ℕ → Option Weighted → Option Weighted
@@ -60,31 +60,31 @@ front_twice os ps v w (Some x) =
     ∙ ap (λ n. Some record { occurrences_ = (os ++ ps) ++ x.occurrences_; width_ = n }) e
 
 module _ (hyps : List Tm) (p : Pair) (ps : List Pair) where
-  weighted_none : None ≡ hypothesis_sides_of hyps p.0 → weighted hyps (p ∷ ps) ≡ None
+  weighted_none : None ≡ hypothesis_sides_of hyps p.0 → weight_of hyps (p ∷ ps) ≡ None
   unfolding hypothesis_sides_of
   weighted_none h = by_get (slice_get hyps p.0) h
     where
-      by_get : (o : Option Tm) → None ≡ (o >>= sides) → ◌≡◌ {A = Option Weighted} (o >>= λ h. sides h >>= λ s. weighted hyps ps >>= λ w. Some record { occurrences_ = times p.1 (difference s.left s.right) ++ w.occurrences_; width_ = (width s.left + width s.right) + w.width_ }) None
+      by_get : (o : Option Tm) → None ≡ (o >>= sides) → ◌≡◌ {A = Option Weighted} (o >>= λ h. sides h >>= λ s. weight_of hyps ps >>= λ w. Some record { occurrences_ = times p.1 (difference s.left s.right) ++ w.occurrences_; width_ = (width s.left + width s.right) + w.width_ }) None
       by_get None h = refl
-      by_get (Some t) h = ap (λ o. o >>= λ s. weighted hyps ps >>= λ w. Some record { occurrences_ = times p.1 (difference s.left s.right) ++ w.occurrences_; width_ = (width s.left + width s.right) + w.width_ }) (sym h)
+      by_get (Some t) h = ap (λ o. o >>= λ s. weight_of hyps ps >>= λ w. Some record { occurrences_ = times p.1 (difference s.left s.right) ++ w.occurrences_; width_ = (width s.left + width s.right) + w.width_ }) (sym h)
 
-  weighted_some : (s : Sides) → Some s ≡ hypothesis_sides_of hyps p.0 → weighted hyps (p ∷ ps) ≡ in_front (times p.1 (difference s.left s.right)) (width s.left + width s.right) (weighted hyps ps)
+  weighted_some : (s : Sides) → Some s ≡ hypothesis_sides_of hyps p.0 → weight_of hyps (p ∷ ps) ≡ in_front (times p.1 (difference s.left s.right)) (width s.left + width s.right) (weight_of hyps ps)
   unfolding hypothesis_sides_of
-  weighted_some s h = by_get (slice_get hyps p.0) h ∙ by_rest (weighted hyps ps)
+  weighted_some s h = by_get (slice_get hyps p.0) h ∙ by_rest (weight_of hyps ps)
     where
-      by_get : (o : Option Tm) → Some s ≡ (o >>= sides) → ◌≡◌ {A = Option Weighted} (o >>= λ h. sides h >>= λ s. weighted hyps ps >>= λ w. Some record { occurrences_ = times p.1 (difference s.left s.right) ++ w.occurrences_; width_ = (width s.left + width s.right) + w.width_ }) (weighted hyps ps >>= λ w. Some record { occurrences_ = times p.1 (difference s.left s.right) ++ w.occurrences_; width_ = (width s.left + width s.right) + w.width_ })
+      by_get : (o : Option Tm) → Some s ≡ (o >>= sides) → ◌≡◌ {A = Option Weighted} (o >>= λ h. sides h >>= λ s. weight_of hyps ps >>= λ w. Some record { occurrences_ = times p.1 (difference s.left s.right) ++ w.occurrences_; width_ = (width s.left + width s.right) + w.width_ }) (weight_of hyps ps >>= λ w. Some record { occurrences_ = times p.1 (difference s.left s.right) ++ w.occurrences_; width_ = (width s.left + width s.right) + w.width_ })
       by_get None h = absurd cc
-      by_get (Some t) h = ap (λ o. o >>= λ s. weighted hyps ps >>= λ w. Some record { occurrences_ = times p.1 (difference s.left s.right) ++ w.occurrences_; width_ = (width s.left + width s.right) + w.width_ }) (sym h)
+      by_get (Some t) h = ap (λ o. o >>= λ s. weight_of hyps ps >>= λ w. Some record { occurrences_ = times p.1 (difference s.left s.right) ++ w.occurrences_; width_ = (width s.left + width s.right) + w.width_ }) (sym h)
 
       by_rest : (x : Option Weighted) → ◌≡◌ {A = Option Weighted} (x >>= λ w. Some record { occurrences_ = times p.1 (difference s.left s.right) ++ w.occurrences_; width_ = (width s.left + width s.right) + w.width_ }) (in_front (times p.1 (difference s.left s.right)) (width s.left + width s.right) x)
       by_rest None = refl
       by_rest (Some w) = refl
 
-too_wide : (os : List Occurrence) (w : ℕ) (x : Option Weighted) → width_limit < w → Never (in_front os w x)
+too_wide : (os : List Occurrence) (w : ℕ) (x : Option Weighted) → width_limit < w → ClosesNothing (in_front os w x)
 too_wide os w None h g = refl
 too_wide os w (Some x) h g =
     let past : width_limit < (width g.left + width g.right) + (w + x.width_) = omega arith in
-    ap (λ b. b && balanced (difference g.left g.right) (os ++ x.occurrences_)) (lt-leb _ _ past)
+    ap (λ b. b && is_balanced (difference g.left g.right) (os ++ x.occurrences_)) (lt-leb _ _ past)
 
 module _ (hyps : List Tm) (pairs : List Pair) (n : ℕ) (os : List Occurrence) (w : ℕ) where
   abbrev pair_now : Pair
@@ -93,15 +93,15 @@ module _ (hyps : List Tm) (pairs : List Pair) (n : ℕ) (os : List Occurrence) (
   split : n < length pairs → drop n pairs ≡ pair_now ∷ drop (n + 1) pairs
   split lt = drop-cons pairs n (0, 0) lt ∙ (let e : suc n ≡ n + 1 = omega arith in ap (λ k. pair_now ∷ drop k pairs) e)
 
-  pub weigh_none : n < length pairs → in_front os w (weighted hyps (drop n pairs)) ≡ weighted hyps pairs → None ≡ hypothesis_sides_of hyps pair_now.0 → Never (weighted hyps pairs)
+  pub weigh_none : n < length pairs → in_front os w (weight_of hyps (drop n pairs)) ≡ weight_of hyps pairs → None ≡ hypothesis_sides_of hyps pair_now.0 → ClosesNothing (weight_of hyps pairs)
   weigh_none lt whole h =
-      subst Never (ap (in_front os w) (sym (ap (weighted hyps) (split lt) ∙ weighted_none hyps pair_now (drop (n + 1) pairs) h)) ∙ whole) (λ g. refl)
+      subst ClosesNothing (ap (in_front os w) (sym (ap (weight_of hyps) (split lt) ∙ weighted_none hyps pair_now (drop (n + 1) pairs) h)) ∙ whole) (λ g. refl)
 
-  pub weigh_more : (s : Sides) → n < length pairs → in_front os w (weighted hyps (drop n pairs)) ≡ weighted hyps pairs → Some s ≡ hypothesis_sides_of hyps pair_now.0 → in_front (os ++ times pair_now.1 (difference s.left s.right)) (w + (width s.left + width s.right)) (weighted hyps (drop (n + 1) pairs)) ≡ weighted hyps pairs
+  pub weigh_more : (s : Sides) → n < length pairs → in_front os w (weight_of hyps (drop n pairs)) ≡ weight_of hyps pairs → Some s ≡ hypothesis_sides_of hyps pair_now.0 → in_front (os ++ times pair_now.1 (difference s.left s.right)) (w + (width s.left + width s.right)) (weight_of hyps (drop (n + 1) pairs)) ≡ weight_of hyps pairs
   weigh_more s lt whole h =
-      sym (front_twice os (times pair_now.1 (difference s.left s.right)) w (width s.left + width s.right) (weighted hyps (drop (n + 1) pairs)))
-      ∙ ap (in_front os w) (sym (ap (weighted hyps) (split lt) ∙ weighted_some hyps pair_now (drop (n + 1) pairs) s h)) ∙ whole
+      sym (front_twice os (times pair_now.1 (difference s.left s.right)) w (width s.left + width s.right) (weight_of hyps (drop (n + 1) pairs)))
+      ∙ ap (in_front os w) (sym (ap (weight_of hyps) (split lt) ∙ weighted_some hyps pair_now (drop (n + 1) pairs) s h)) ∙ whole
 
-  pub weigh_wide : (s : Sides) → n < length pairs → in_front os w (weighted hyps (drop n pairs)) ≡ weighted hyps pairs → Some s ≡ hypothesis_sides_of hyps pair_now.0 → width_limit < w + (width s.left + width s.right) → Never (weighted hyps pairs)
+  pub weigh_wide : (s : Sides) → n < length pairs → in_front os w (weight_of hyps (drop n pairs)) ≡ weight_of hyps pairs → Some s ≡ hypothesis_sides_of hyps pair_now.0 → width_limit < w + (width s.left + width s.right) → ClosesNothing (weight_of hyps pairs)
   weigh_wide s lt whole h wide =
-      subst Never (weigh_more s lt whole h) (too_wide _ _ (weighted hyps (drop (n + 1) pairs)) wide)
+      subst ClosesNothing (weigh_more s lt whole h) (too_wide _ _ (weight_of hyps (drop (n + 1) pairs)) wide)

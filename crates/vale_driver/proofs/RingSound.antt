@@ -14,7 +14,7 @@ use Rattle.term_core.specs.Value.{T, Truth, Word, word, cast, val_eq, sum_value,
 use Rattle.term_core.proofs.Values.{word-lt, value-sorted, val_eq_is, val_eq_same}
 use Rattle.term_core.proofs.Comparing.{tm_eq_is, tm_eq_same, sort_eq_is}
 use Rattle.vale_driver.specs.Certificate.{Pair}
-use Rattle.vale_driver.specs.Ring.{Occurrence, alone, of_words, occurrences, times, difference, same_atom, coefficient, balanced, Sides, sides, Weighted, weighted, closes_with, closes_sides, ring_closes}
+use Rattle.vale_driver.specs.Ring.{Occurrence, alone, of_words, occurrences, times, difference, same_atom, coefficient, is_balanced, Sides, sides, Weighted, weight_of, closes_with, closes_sides, ring_closes}
 use Rattle.vale_driver.proofs.Pieces.{bind_some, given_some}
 
 -- equal modulo 2^64
@@ -222,7 +222,7 @@ module _ (g : Functions) (a : Assignment) where
       let q = absent_parts m os ps p.1 in
       (and_from _ _ p.0 q.0, q.1)
 
-  agrees-balanced : (left right : List Occurrence) → balanced left right ≡ true → Agrees left right
+  agrees-balanced : (left right : List Occurrence) → is_balanced left right ≡ true → Agrees left right
   agrees-balanced left right h = record { each = λ m. by_case m (tested left right (left ++ right) h m) }
     where
       by_case : (m : Option Tm) → (coefficient m left ≡ coefficient m right) ⊎ (absent m (left ++ right) ≡ true) → coefficient m left ≡ coefficient m right
@@ -284,7 +284,7 @@ module _ (g : Functions) (a : Assignment) where
   hyp_holds (x ∷ hyps) (suc i) t h ok = hyp_holds hyps i t h ok.1
 
   -- hypotheses that hold are worth nothing together
-  weighted_none : (hyps : List Tm) → AllByRecursion (Holds g a) hyps → (ps : List Pair) (w : Weighted) → weighted hyps ps ≡ Some w → Alike (total w.occurrences_) 0
+  weighted_none : (hyps : List Tm) → AllByRecursion (Holds g a) hyps → (ps : List Pair) (w : Weighted) → weight_of hyps ps ≡ Some w → Alike (total w.occurrences_) 0
   unfolding total
   weighted_none hyps ok [] w h = let e : record { occurrences_ = []; width_ = 0 } ≡ w = same_Some _ _ h in ap (λ (x : Weighted). total x.occurrences_ % T) (sym e) ∙ nothing
     where
@@ -293,7 +293,7 @@ module _ (g : Functions) (a : Assignment) where
   weighted_none hyps ok (p ∷ ps) w h =
       let b = bind_some (slice_get hyps p.0) _ _ h in
       let s = bind_some (sides b.0) _ _ b.2 in
-      let r = bind_some (weighted hyps ps) _ _ s.2 in
+      let r = bind_some (weight_of hyps ps) _ _ s.2 in
       let e = same_Some _ _ r.2 in
       let equal = holds_sides b.0 s.0 s.1 (hyp_holds hyps p.0 b.0 b.1 ok) in
       let d = difference s.0.left s.0.right in
@@ -305,13 +305,13 @@ module _ (g : Functions) (a : Assignment) where
   pub ring_sound : (hyps : List Tm) (goal : Tm) (ps : List Pair) → ring_closes hyps goal ps ≡ true → AllByRecursion (Holds g a) hyps → Holds g a goal
   ring_sound hyps goal ps h ok = by_sides (sides goal) refl h
     where
-      by_weighted : (x : Sides) (o : Option Weighted) → weighted hyps ps ≡ o → closes_with x o ≡ true → Alike (total (difference x.left x.right)) 0
+      by_weighted : (x : Sides) (o : Option Weighted) → weight_of hyps ps ≡ o → closes_with x o ≡ true → Alike (total (difference x.left x.right)) 0
       by_weighted x None e h = absurd (false≢true h)
       by_weighted x (Some w) e h =
-          let p = and_parts _ (balanced (difference x.left x.right) w.occurrences_) h in
+          let p = and_parts _ (is_balanced (difference x.left x.right) w.occurrences_) h in
           total-agrees (length (difference x.left x.right) + length w.occurrences_) (difference x.left x.right) w.occurrences_ (omega arith) (agrees-balanced _ _ p.1)
           ∙ weighted_none hyps ok ps w e
 
       by_sides : (o : Option Sides) → sides goal ≡ o → closes_sides hyps ps o ≡ true → Holds g a goal
       by_sides None e h = absurd (false≢true h)
-      by_sides (Some x) e h = sides_hold goal x e (by_weighted x (weighted hyps ps) refl h)
+      by_sides (Some x) e h = sides_hold goal x e (by_weighted x (weight_of hyps ps) refl h)

@@ -2,8 +2,9 @@
 use Rattle.std.proofs.Common.{◌≡◌, ℕ, zero, suc, ◌+◌, ◌-◌, ◌<◌, ◌≤◌, List, [], ◌∷◌, ◌++◌, Option, Some, None, refl, sym, ap, ◌∙◌, arith, append_assoc}
 use Rattle.std.proofs.lemmas.List.{append-nil}
 use Rattle.std.specs.Prelude.{codes}
-use Rattle.vale_driver.specs.Reading.{◌>>=◌, strip}
-use Rattle.vale_driver.specs.Certificate.{Pair, pair_at, more_at, with_pairs, behind_comma}
+use Rattle.vale_driver.specs.inner.Fronts.{◌>>=◌, strip}
+use Rattle.vale_driver.specs.Certificate.{Pair}
+use Rattle.vale_driver.specs.inner.CertificateFront.{pair_at, more_at, with_pairs, behind_comma}
 
 pub then_some : {A B : Type 0} (o : Option A) (x : A) (f : A → Option B) → Some x ≡ o → (o >>= f) ≡ f x
 then_some o x f e = ap (λ p. p >>= f) (sym e)

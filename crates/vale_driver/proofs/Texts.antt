@@ -10,18 +10,21 @@ use Rattle.std.specs.declared.alloc.Global.{Global}
 use Rattle.x64_syntax.specs.declared.items.Item.{Item}
 use Rattle.x64_meaning.specs.State.{State}
 use Rattle.vale_driver.specs.declared.status.Refusal.{Refusal}
-use Rattle.vale_driver.specs.Words.{Evaluation, Lists, Evaluates}
-use Rattle.vale_driver.specs.Listed.{text_limit, state_limit, trace_room, is_wide, is_named, too_long, TextRefused, long_text, TextRead, Begun, StateRead, StateRefused, long_state, BegunRefused, before, behind, listing_text}
-use Rattle.vale_driver.specs.Stops.{Fetched, FileHolds}
-use Rattle.vale_driver.specs.Commands.{IsRefused, WritesListing, WritesReport}
+use Rattle.vale_driver.specs.Words.{Read, Eval, EvalWords}
+use Rattle.vale_driver.specs.Limits.{text_limit, state_limit, trace_room}
+use Rattle.vale_driver.specs.Texts.{is_wide, is_named, TextRefused, long_text, TextRead, Begun, StateRead, StateRefused, long_state, BegunRefused, before, behind, listing_text}
+use Rattle.vale_driver.specs.inner.Stops.{Fetched, FileHolds}
+use Rattle.vale_driver.specs.Commands.{IsRefused, WritesReading, WritesReport}
+use Rattle.vale_driver.specs.Causes.{refusal_of}
 use Rattle.vale_driver.proofs.Files.{told_or_nothing, is_told, long_bytes, fetched_none}
+use Rattle.vale_driver.specs.Causes as cause
 
-pub text_long : (told : Option (List ℕ)) (file : List ℕ) (r : Refusal) (old new : ℕ) (o : Option (Vec ℕ Global)) → ((v : Vec ℕ Global) → o ≡ Some v → ⊥) → Fetched told text_limit old new (Ok o) → r ≡ too_long file → FileHolds told (λ t. TextRefused file t r)
+pub text_long : (told : Option (List ℕ)) (file : List ℕ) (r : Refusal) (old new : ℕ) (o : Option (Vec ℕ Global)) → ((v : Vec ℕ Global) → o ≡ Some v → ⊥) → Fetched told text_limit old new (Ok o) → r ≡ refusal_of (cause.TooLong file) → FileHolds told (λ t. TextRefused file t r)
 text_long told file r old new o gone fetched is =
     let (long, holds, more) = long_bytes text_limit told (fetched_none told text_limit old new o gone fetched) in
     record { held = long; holds = holds; reads = long_text more is }
 
-pub state_long : (told : Option (List ℕ)) (file : List ℕ) (r : Refusal) (old new : ℕ) (o : Option (Vec ℕ Global)) → ((v : Vec ℕ Global) → o ≡ Some v → ⊥) → Fetched told state_limit old new (Ok o) → r ≡ too_long file → FileHolds told (λ t. StateRefused file t r)
+pub state_long : (told : Option (List ℕ)) (file : List ℕ) (r : Refusal) (old new : ℕ) (o : Option (Vec ℕ Global)) → ((v : Vec ℕ Global) → o ≡ Some v → ⊥) → Fetched told state_limit old new (Ok o) → r ≡ refusal_of (cause.TooLong file) → FileHolds told (λ t. StateRefused file t r)
 state_long told file r old new o gone fetched is =
     let (long, holds, more) = long_bytes state_limit told (fetched_none told state_limit old new o gone fetched) in
     record { held = long; holds = holds; reads = long_state more is }
@@ -40,22 +43,22 @@ pub holds_also : {told : Option (List ℕ)} {P Q : List ℕ → Type 0} → ((t 
 holds_also f h = record { held = h.held; holds = h.holds; reads = f h.held h.reads }
 
 -- a listing
-pub listing_refused : (tells : List ℕ → Option (List ℕ)) (file : List ℕ) (r : Refusal) → FileHolds (tells file) (λ t. TextRefused file t r) → IsRefused tells (Lists file) r
+pub listing_refused : (tells : List ℕ → Option (List ℕ)) (file : List ℕ) (r : Refusal) → FileHolds (tells file) (λ t. TextRefused file t r) → IsRefused tells (Read file) r
 listing_refused tells file r h = record { held = h.held; holds = h.holds; first = h.reads }
 
-pub listing_written : (tells : List ℕ → Option (List ℕ)) (file : List ℕ) (items : List Item) (out : List ℕ) → FileHolds (tells file) (λ t. TextRead t items) → out ≡ listing_text items → WritesListing tells file out
-listing_written tells file items out h is = record { text = h.held; holds = h.holds; listed = record { items = items; read = h.reads; is = is } }
+pub listing_written : (tells : List ℕ → Option (List ℕ)) (file : List ℕ) (items : List Item) (out : List ℕ) → FileHolds (tells file) (λ t. TextRead t items) → out ≡ listing_text items → WritesReading tells file out
+listing_written tells file items out h is = record { text = h.held; holds = h.holds; reading = record { items = items; read = h.reads; is = is } }
 
-module _ (tells : List ℕ → Option (List ℕ)) (e : Evaluation) where
+module _ (tells : List ℕ → Option (List ℕ)) (e : EvalWords) where
   -- a run that is refused before its state is read, or by its state
-  pub refused_before : (r : Refusal) → FileHolds (tells e.text) (λ t. BegunRefused e t r) → IsRefused tells (Evaluates e) r
+  pub refused_before : (r : Refusal) → FileHolds (tells e.text) (λ t. BegunRefused e t r) → IsRefused tells (Eval e) r
   refused_before r h = record {
     held = record { text = h.held; state = told_or_nothing (tells e.state) };
     holds = (h.holds, is_told (tells e.state));
     first = before h.reads;
   }
 
-  pub refused_behind : (told : Option (List ℕ)) (items : List Item) (at : ℕ) (r : Refusal) → told ≡ tells e.state → FileHolds (tells e.text) (λ t. Begun e t items (Some at)) → FileHolds told (λ t. StateRefused e.state t r) → IsRefused tells (Evaluates e) r
+  pub refused_behind : (told : Option (List ℕ)) (items : List Item) (at : ℕ) (r : Refusal) → told ≡ tells e.state → FileHolds (tells e.text) (λ t. Begun e t items (Some at)) → FileHolds told (λ t. StateRefused e.state t r) → IsRefused tells (Eval e) r
   refused_behind told items at r same h k = record {
     held = record { text = h.held; state = k.held };
     holds = (h.holds, subst (λ o. IfSome o (λ t. k.held ≡ t)) same k.holds);
@@ -67,7 +70,7 @@ module _ (tells : List ℕ → Option (List ℕ)) (e : Evaluation) where
   reported told items at start out same h k is = record {
     held = record { text = h.held; state = k.held };
     holds = (h.holds, subst (λ o. IfSome o (λ t. k.held ≡ t)) same k.holds);
-    evaluated = record { items = items; at = at; begun = h.reads; start = start; read = k.reads; is = is };
+    report = record { items = items; at = at; begun = h.reads; start = start; read = k.reads; is = is };
   }
 
 -- items without wide ones are general, and the entry found is one

@@ -17,39 +17,39 @@ use Rattle.straight_line.specs.declared.form.StraightLine.{StraightLine}
 use Rattle.straight_line.specs.Form.{has}
 
 -- what a register holds at the end: a constant, what a register held at the start, or that and a constant more
-abbrev pub promised : Promise → Exp
-promised (Constant r k) = Bin bin.Eq (After (Reg r)) (W64 k)
-promised (Old r q) = Bin bin.Eq (After (Reg r)) (Before (Reg q))
-promised (Sum r q k) = Bin bin.Eq (After (Reg r)) (Bin bin.Add (Before (Reg q)) (W64 k))
+abbrev pub promise_exp : Promise → Exp
+promise_exp (Constant r k) = Bin bin.Eq (After (Reg r)) (W64 k)
+promise_exp (Old r q) = Bin bin.Eq (After (Reg r)) (Before (Reg q))
+promise_exp (Sum r q k) = Bin bin.Eq (After (Reg r)) (Bin bin.Add (Before (Reg q)) (W64 k))
 
 -- it reads its registers, and changes them and the flags
-abbrev pub is_read : StraightLine → Place → Bool
-is_read p (Reg q) = has p.registers q
-is_read p _ = false
+abbrev pub reads_place : StraightLine → Place → Bool
+reads_place p (Reg q) = has p.registers q
+reads_place p _ = false
 
-abbrev pub is_changed : StraightLine → Place → Bool
-is_changed p (Reg q) = has p.registers q
-is_changed p (Xmm x) = false
-is_changed p (Flag f) = true
+abbrev pub changes_place : StraightLine → Place → Bool
+changes_place p (Reg q) = has p.registers q
+changes_place p (Xmm x) = false
+changes_place p (Flag f) = true
 
 abbrev pub contract_of : StraightLine → Contract
-contract_of p = record { reads = is_read p; modifies = is_changed p; requires_ = []; ensures_ = promised p.promise ∷ [] }
+contract_of p = record { reads = reads_place p; modifies = changes_place p; requires_ = []; ensures_ = promise_exp p.promise ∷ [] }
 
 -- the condition: the instructions' equations, and the promise as the goal
 abbrev pub condition_hyps : StraightLine → List Tm
 condition_hyps p = straight_hyps p.instructions
 
 abbrev pub condition_goal : StraightLine → Tm
-condition_goal p = straight_goal p.instructions (promised p.promise)
+condition_goal p = straight_goal p.instructions (promise_exp p.promise)
 
 -- its code: instructions one after another, none of which accesses memory
-abbrev pub steps_of : List Ins → Prog
-steps_of [] = Done
-steps_of (i ∷ is) = Step i None (steps_of is)
+abbrev pub straight_code : List Ins → Prog
+straight_code [] = Done
+straight_code (i ∷ is) = Step i None (straight_code is)
 
 -- its exports, each a name and its code
 abbrev pub exports_of : StraightLine → List (List ℕ × Prog)
-exports_of p = (p.export, steps_of p.instructions) ∷ []
+exports_of p = (p.export, straight_code p.instructions) ∷ []
 
 abbrev pub lowered_code : StraightLine → List Item
 lowered_code p = lowered (exports_of p)

@@ -1,87 +1,109 @@
 -- How a run of the program ends.
-use Rattle.std.specs.Prelude.{◌≡◌, ℕ, List, Option, Some, None, IsSome, ◌⊎◌}
+use Rattle.std.specs.Prelude.{◌≡◌, ℕ, List, Option, Some, None, IsSome, IsTrue, IfSome, Bool, ◌⊎◌}
+use Rattle.std.specs.List.{AllByRecursion}
 use Rattle.vale_outside.specs.Outside.{Rose, Appends, AppendsFront}
 use Rattle.vale_driver.specs.declared.status.Refusal.{Refusal}
 use Rattle.vale_driver.specs.declared.status.Status.{Status}
 use Rattle.vale_driver.specs.declared.status.Status.TheVariants.{Done, Refused, Usage, ReadFault, WriteFault, NoMemory}
-use Rattle.vale_driver.specs.Words.{Command}
+use Rattle.vale_driver.specs.Words.{Command, files_of}
 use Rattle.vale_driver.specs.Commands.{Held, TellsAll, FirstRefusal, IsRefused, IsOutput}
-use Rattle.vale_driver.specs.Outcome.{refusal_line, usage_line, read_fault_line, Streams, Says, SaysFront, Silent, Writes, WritesFront}
+use Rattle.vale_driver.specs.Lines.{refusal_line, usage_line, read_fault_line}
+
+-- What a store tells of its files, and its counts of faults before and after.
+pub record Files : Type 0 where
+  pub tells : List ℕ → Option (List ℕ)
+  pub before : ℕ
+  pub after : ℕ
+
+abbrev pub files : (List ℕ → Option (List ℕ)) → ℕ → ℕ → Files
+files tells before after = record { tells = tells; before = before; after = after }
+
+-- What a stream told before and tells now, and its counts of faults before and after.
+pub record Stream : Type 0 where
+  pub told : Option (List ℕ)
+  pub tells : Option (List ℕ)
+  pub before : ℕ
+  pub after : ℕ
+
+abbrev pub stream : Option (List ℕ) → Option (List ℕ) → ℕ → ℕ → Stream
+stream told tells before after = record { told = told; tells = tells; before = before; after = after }
+
+-- nothing was written
+abbrev pub IsSilent : Stream → Type 0
+IsSilent s = s.tells ≡ s.told
+
+-- the text was written, or a front of it
+abbrev pub Takes : Stream → List ℕ → Type 0
+Takes s text = Appends s.told s.tells text
+
+abbrev pub TakesFront : Stream → List ℕ → Type 0
+TakesFront s text = AppendsFront s.told s.tells text
+
+-- a call failed
+abbrev pub Fails : Stream → Type 0
+Fails s = Rose s.before s.after
+
+abbrev pub StoreFails : Files → Type 0
+StoreFails f = Rose f.before f.after
+
+-- the files that the words name may all be asked for
+abbrev pub MayAsk : (List ℕ → Bool) → Option Command → Type 0
+MayAsk may_ask form = IfSome form (λ c. AllByRecursion (λ f. IsTrue (may_ask f)) (files_of c))
 
 -- the words ask for a command, of which this is so
 abbrev pub Asks : Option Command → (Command → Type 0) → Type 0
 Asks None P = ⊥
 Asks (Some c) P = P c
 
--- What is known of the outside: what the store tells, and the counts of faults before and after.
-pub record Outside : Type 0 where
-  pub tells : List ℕ → Option (List ℕ)
-  pub store_old : ℕ
-  pub store_new : ℕ
-  pub out_old : ℕ
-  pub out_new : ℕ
-  pub err_old : ℕ
-  pub err_new : ℕ
-
--- the output was written
-pub record WroteText (tells : List ℕ → Option (List ℕ)) (c : Command) (s : Streams) : Type 0 where
+-- the output of the command, of which this is so
+pub record SomeOutput (f : Files) (c : Command) (P : List ℕ → Type 0) : Type 0 where
   pub text : List ℕ
-  pub output : IsOutput tells c text
-  pub writes : Writes s text
-
--- a front of such an output was written
-pub record WroteFront (tells : List ℕ → Option (List ℕ)) (c : Command) (s : Streams) : Type 0 where
-  pub text : List ℕ
-  pub output : IsOutput tells c text
-  pub writes : WritesFront s text
+  pub output : IsOutput f.tells c text
+  pub so : P text
 
 -- the line of a refusal
-pub record IsRefusalLine (tells : List ℕ → Option (List ℕ)) (c : Command) (line : List ℕ) : Type 0 where
+pub record IsRefusalLine (f : Files) (c : Command) (line : List ℕ) : Type 0 where
   pub refusal : Refusal
-  pub refused : IsRefused tells c refusal
+  pub refused : IsRefused f.tells c refusal
   pub is : line ≡ refusal_line refusal
 
 -- the line of a refusal, a usage line, or the line of a read fault
-abbrev pub IsLine : Option Command → Outside → List ℕ → Type 0
-IsLine None o line = line ≡ usage_line
-IsLine (Some c) o line = IsRefusalLine o.tells c line ⊎ (Rose o.store_old o.store_new × (line ≡ read_fault_line))
+abbrev pub IsLine : Option Command → Files → List ℕ → Type 0
+IsLine None f line = line ≡ usage_line
+IsLine (Some c) f line = IsRefusalLine f c line ⊎ (StoreFails f × (line ≡ read_fault_line))
 
--- a front of the line was written
-pub record SaidFront (form : Option Command) (o : Outside) (s : Streams) : Type 0 where
+-- a front of such a line was written
+pub record SaidFront (form : Option Command) (f : Files) (err : Stream) : Type 0 where
   pub line : List ℕ
-  pub is_line : IsLine form o line
-  pub says : SaysFront s line
+  pub is_line : IsLine form f line
+  pub front : TakesFront err line
 
--- `out` failed within the text, or `err` within the line
-abbrev pub Unwritten : Option Command → Outside → Streams → Type 0
-Unwritten form o s = (Rose o.out_old o.out_new × Asks form (λ c. WroteFront o.tells c s)) ⊎ (Rose o.err_old o.err_new × SaidFront form o s)
+-- `out` failed within the output, or `err` within the line
+abbrev pub IsUnwritten : Option Command → Files → Stream → Stream → Type 0
+IsUnwritten form f out err =
+    (Fails out × (Asks form (λ c. SomeOutput f c (TakesFront out)) × IsSilent err)) ⊎ (Fails err × (SaidFront form f err × IsSilent out))
 
--- What is known after each answer, of the words, of what the store tells, and of what was written.
-abbrev pub Ends : Option Command → Outside → Streams → Status → Type 0
-Ends form o s Done = Asks form (λ c. WroteText o.tells c s)
-Ends form o s (Refused r) = Asks form (λ c. IsRefused o.tells c r) × Says s (refusal_line r)
-Ends form o s Usage = (form ≡ None) × Says s usage_line
-Ends form o s ReadFault = IsSome form × (Rose o.store_old o.store_new × Says s read_fault_line)
-Ends form o s WriteFault = Unwritten form o s
-Ends form o s NoMemory = IsSome form × Silent s
+-- What is known after each answer: of the words, of what the store tells, and of what was written to `out` and `err`.
+abbrev pub Ends : Option Command → Files → Stream → Stream → Status → Type 0
+Ends form f out err Done = Asks form (λ c. SomeOutput f c (Takes out)) × IsSilent err
+Ends form f out err (Refused r) = Asks form (λ c. IsRefused f.tells c r) × (Takes err (refusal_line r) × IsSilent out)
+Ends form f out err Usage = (form ≡ None) × (Takes err usage_line × IsSilent out)
+Ends form f out err ReadFault = IsSome form × (StoreFails f × (Takes err read_fault_line × IsSilent out))
+Ends form f out err WriteFault = IsUnwritten form f out err
+Ends form f out err NoMemory = IsSome form × (IsSilent out × IsSilent err)
 
--- no count rose
-pub record Quiet (o : Outside) : Type 0 where
-  pub store : Rose o.store_old o.store_new → ⊥
-  pub out : Rose o.out_old o.out_new → ⊥
-  pub err : Rose o.err_old o.err_new → ⊥
+-- no call failed
+pub record IsQuiet (f : Files) (out err : Stream) : Type 0 where
+  pub store : StoreFails f → ⊥
+  pub output : Fails out → ⊥
+  pub line : Fails err → ⊥
 
--- The answer where no count rose: Usage exactly where the words are no command, and where the store tells all that the
+-- The answer where no call failed: Usage exactly where the words are no command, and where the store tells all that the
 -- files hold, the first refusal where there is one, and else Done; but for want of memory.
-pub record Answers (form : Option Command) (o : Outside) (status : Status) : Type 0 where
+pub record IsExact (form : Option Command) (f : Files) (status : Status) : Type 0 where
   pub usage : form ≡ None → status ≡ Usage
-  pub refused : (c : Command) (h : Held c) (r : Refusal) → form ≡ Some c → TellsAll o.tells c h → FirstRefusal c h r → (status ≡ Refused r) ⊎ (status ≡ NoMemory)
-  pub done : (c : Command) (h : Held c) → form ≡ Some c → TellsAll o.tells c h → ((r : Refusal) → FirstRefusal c h r → ⊥) → (status ≡ Done) ⊎ (status ≡ NoMemory)
+  pub refused : (c : Command) (h : Held c) (r : Refusal) → form ≡ Some c → TellsAll f.tells c h → FirstRefusal c h r → (status ≡ Refused r) ⊎ (status ≡ NoMemory)
+  pub done : (c : Command) (h : Held c) → form ≡ Some c → TellsAll f.tells c h → ((r : Refusal) → FirstRefusal c h r → ⊥) → (status ≡ Done) ⊎ (status ≡ NoMemory)
 
-abbrev pub Exactly : Option Command → Outside → Status → Type 0
-Exactly form o status = Quiet o → Answers form o status
-
--- the line was written and the status is the answer, or a front of it was and a write failed
-abbrev pub SaysOr : Status → Option (List ℕ) → Option (List ℕ) → ℕ → ℕ → List ℕ → Status → Type 0
-SaysOr status told_old told_new faults_old faults_new line result =
-    ((result ≡ status) × Appends told_old told_new line) ⊎ ((result ≡ WriteFault) × (Rose faults_old faults_new × AppendsFront told_old told_new line))
+abbrev pub Exactly : Option Command → Files → Stream → Stream → Status → Type 0
+Exactly form f out err status = IsQuiet f out err → IsExact form f status

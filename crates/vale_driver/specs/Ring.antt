@@ -1,4 +1,4 @@
--- The rule `ring`: for every monomial the coefficients of the goal's sides and of the weighted sum of the hypotheses'
+-- The rule `ring`: for every monomial the coefficients of the goal's sides and of the weight_of sum of the hypotheses'
 -- sides agree modulo 2^64.
 use Rattle.std.specs.Prelude.{ℕ, ◌+◌, ◌-◌, ◌*◌, ◌%◌, Bool, true, false, ◌&&◌, ◌==◌, nat_le, List, [], ◌∷◌, ◌++◌, map, Option, Some, None, slice_get, if◌then◌else◌}
 use Rattle.std.specs.List.{list_all}
@@ -7,7 +7,8 @@ use Rattle.term_core.specs.declared.operator.BinOp.TheVariants as bin
 use Rattle.term_core.specs.Terms.{Tm, W64, Bin, tm_eq, tm_sort}
 use Rattle.term_core.specs.Operators.{sort_eq}
 use Rattle.term_core.specs.Value.{T}
-use Rattle.vale_driver.specs.Reading.{◌>>=◌, given}
+use Rattle.vale_driver.specs.inner.Fronts.{◌>>=◌}
+use Rattle.vale_driver.specs.Words.{value_if}
 use Rattle.vale_driver.specs.Certificate.{Pair}
 
 -- a monomial as it occurs: its coefficient modulo 2^64, and its atom, or none for the constant
@@ -52,8 +53,8 @@ coefficient m [] = 0
 coefficient m (o ∷ os) = if same_atom m o.atom then (o.coefficient + coefficient m os) % T else coefficient m os
 
 -- every monomial that occurs has the same coefficient on both sides
-abbrev pub balanced : List Occurrence → List Occurrence → Bool
-balanced left right = list_all (λ o. coefficient o.atom left == coefficient o.atom right) (left ++ right)
+abbrev pub is_balanced : List Occurrence → List Occurrence → Bool
+is_balanced left right = list_all (λ o. coefficient o.atom left == coefficient o.atom right) (left ++ right)
 
 pub record Sides : Type 0 where
   pub left : Tm
@@ -61,7 +62,7 @@ pub record Sides : Type 0 where
 
 -- the sides of an equation of words
 abbrev pub sides : Tm → Option Sides
-sides (Bin bin.Eq t u) = given (of_words t && of_words u) record { left = t; right = u }
+sides (Bin bin.Eq t u) = value_if (of_words t && of_words u) record { left = t; right = u }
 sides _ = None
 
 -- occurrences, and the widths of the sides that they came from
@@ -70,10 +71,10 @@ pub record Weighted : Type 0 where
   pub width_ : ℕ
 
 -- the sum of the differences of the named hypotheses, each times its factor; none where one isn't an equation of words
-abbrev pub weighted : List Tm → List Pair → Option Weighted
-weighted hyps [] = Some record { occurrences_ = []; width_ = 0 }
-weighted hyps (p ∷ ps) =
-    slice_get hyps p.0 >>= λ h. sides h >>= λ s. weighted hyps ps >>= λ w.
+abbrev pub weight_of : List Tm → List Pair → Option Weighted
+weight_of hyps [] = Some record { occurrences_ = []; width_ = 0 }
+weight_of hyps (p ∷ ps) =
+    slice_get hyps p.0 >>= λ h. sides h >>= λ s. weight_of hyps ps >>= λ w.
     Some record { occurrences_ = times p.1 (difference s.left s.right) ++ w.occurrences_; width_ = (width s.left + width s.right) + w.width_ }
 
 -- the widest that all sides together may be
@@ -83,11 +84,11 @@ width_limit = 4096
 abbrev pub closes_with : Sides → Option Weighted → Bool
 closes_with g None = false
 closes_with g (Some w) =
-    nat_le ((width g.left + width g.right) + w.width_) width_limit && balanced (difference g.left g.right) w.occurrences_
+    nat_le ((width g.left + width g.right) + w.width_) width_limit && is_balanced (difference g.left g.right) w.occurrences_
 
 abbrev pub closes_sides : List Tm → List Pair → Option Sides → Bool
 closes_sides hyps ps None = false
-closes_sides hyps ps (Some g) = closes_with g (weighted hyps ps)
+closes_sides hyps ps (Some g) = closes_with g (weight_of hyps ps)
 
 -- the rule applies to the goal with these hypotheses and factors
 abbrev pub ring_closes : List Tm → Tm → List Pair → Bool

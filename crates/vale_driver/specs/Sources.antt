@@ -1,10 +1,9 @@
 -- What source files give, phase by phase over all files: their sizes, their tokens, their declarations.
-use Rattle.std.specs.Prelude.{◌≡◌, ◌⊎◌, ℕ, ◌+◌, ◌<◌, ◌≤◌, List, [], ◌∷◌, ◌++◌, length, Option, Some, None, codes}
+use Rattle.std.specs.Prelude.{◌≡◌, ◌⊎◌, ℕ, ◌+◌, ◌<◌, ◌≤◌, List, [], ◌∷◌, ◌++◌, length, Option, Some, None}
 use Rattle.std.specs.List.{AllByRecursion}
 use Rattle.vale_syntax.specs.declared.spot.Spot.{Spot}
 use Rattle.vale_syntax.specs.declared.token.Token.{Token}
 use Rattle.vale_syntax.specs.declared.token.NotAToken.{NotAToken}
-use Rattle.vale_syntax.specs.declared.token.NotAToken.TheVariants.{BadByte, NumberTooLarge, OpenComment}
 use Rattle.vale_syntax.specs.Tokens.{tokens_from, All, Nothing}
 use Rattle.vale_syntax.specs.Programs.{De}
 use Rattle.vale_syntax.specs.Declarations.{AreDecls}
@@ -12,10 +11,9 @@ use Rattle.vale_parser.specs.Sources.{StopsAt}
 use Rattle.straight_line.specs.declared.form.StraightLine.{StraightLine}
 use Rattle.straight_line.specs.Form.{straight_line}
 use Rattle.vale_driver.specs.declared.status.Refusal.{Refusal}
-
--- the most bytes of a source file
-abbrev pub source_limit : ℕ
-source_limit = 1048576
+use Rattle.vale_driver.specs.Limits.{source_limit}
+use Rattle.vale_driver.specs.Causes.{refusal_of}
+use Rattle.vale_driver.specs.Causes as cause
 
 -- a source file: its number, its name and its bytes
 pub record Source : Type 0 where
@@ -23,14 +21,10 @@ pub record Source : Type 0 where
   pub name : List ℕ
   pub bytes : List ℕ
 
--- names and what the files hold, numbered from k on
-abbrev pub numbered : ℕ → List (List ℕ) → List (List ℕ) → List Source
-numbered k (n ∷ ns) (c ∷ cs) = record { number = k; name = n; bytes = c } ∷ numbered (k + 1) ns cs
-numbered k _ _ = []
-
--- a refusal of a place in a file
-abbrev pub refusal : ℕ → Option (List ℕ) → Option ℕ → List ℕ → Refusal
-refusal number file at cause = record { number = number; file = file; at = at; who = None; cause = cause }
+-- names and what the files hold, sources_from from k on
+abbrev pub sources_from : ℕ → List (List ℕ) → List (List ℕ) → List Source
+sources_from k (n ∷ ns) (c ∷ cs) = record { number = k; name = n; bytes = c } ∷ sources_from (k + 1) ns cs
+sources_from k _ _ = []
 
 -- The first in a list that is refused: those before it pass.
 abbrev pub FirstOf : {A : Type 0} → (A → Type 0) → (A → Refusal → Type 0) → List A → Refusal → Type 0
@@ -46,25 +40,20 @@ pub data Phase {A : Type 0} (Passes : A → Type 0) (IsRefused : A → Refusal �
 abbrev pub IsShort : Source → Type 0
 IsShort s = length s.bytes ≤ source_limit
 
-pub record TooLong (s : Source) (r : Refusal) : Type 0 where
+pub record IsTooLong (s : Source) (r : Refusal) : Type 0 where
   pub long : source_limit < length s.bytes
-  pub is : r ≡ refusal 8 (Some s.name) None (codes "TooLong")
+  pub is : r ≡ refusal_of (cause.TooLong s.name)
 
 -- tokens
-abbrev pub cause_of : NotAToken → List ℕ
-cause_of BadByte = codes "BadByte"
-cause_of NumberTooLarge = codes "NumberTooLarge"
-cause_of OpenComment = codes "OpenComment"
-
 pub record HasTokens (s : Source) : Type 0 where
   pub tokens : List Token
   pub all : tokens_from s.number 0 0 s.bytes ≡ All tokens
 
-pub record NoToken (s : Source) (r : Refusal) : Type 0 where
+pub record LacksToken (s : Source) (r : Refusal) : Type 0 where
   pub why : NotAToken
   pub at : ℕ
   pub nothing : tokens_from s.number 0 0 s.bytes ≡ Nothing why at
-  pub is : r ≡ refusal 1 (Some s.name) (Some at) (cause_of why)
+  pub is : r ≡ refusal_of (cause.NoToken s.name at why)
 
 -- declarations
 pub record HasDecls (s : Source) (decls : List De) : Type 0 where
@@ -75,12 +64,12 @@ pub record HasDecls (s : Source) (decls : List De) : Type 0 where
 abbrev pub IsRead : Source → Type 0
 IsRead s = (decls : List De) × HasDecls s decls
 
-pub record NotADecl (s : Source) (r : Refusal) : Type 0 where
+pub record LacksDeclaration (s : Source) (r : Refusal) : Type 0 where
   pub tokens : List Token
   pub all : tokens_from s.number 0 0 s.bytes ≡ All tokens
   pub first : Spot
   pub stops : StopsAt tokens first
-  pub is : r ≡ refusal 2 (Some s.name) (Some first.at) (codes "NotADecl")
+  pub is : r ≡ refusal_of (cause.NoDeclaration s.name first.at)
 
 -- the declarations of all files, one file behind the other
 abbrev pub Declared : List Source → List De → Type 0
@@ -94,12 +83,12 @@ pub record Spells (ss : List Source) (p : StraightLine) : Type 0 where
   pub is_form : straight_line decls ≡ Some p
 
 -- The sources are together of no form that is built. The refusal names the first file.
-pub record NoForm (file : Option (List ℕ)) (ss : List Source) (r : Refusal) : Type 0 where
+pub record AreNoForm (file : Option (List ℕ)) (ss : List Source) (r : Refusal) : Type 0 where
   pub decls : List De
   pub declared : Declared ss decls
   pub none : straight_line decls ≡ None
-  pub is : r ≡ refusal 2 file (Some 0) (codes "NotBuilt")
+  pub is : r ≡ refusal_of (cause.NoForm file)
 
 -- a refusal by one of the phases, or by what comes after them
 abbrev pub Phases : List Source → (Refusal → Type 0) → Refusal → Type 0
-Phases ss Later r = Phase IsShort TooLong ss (Phase HasTokens NoToken ss (Phase IsRead NotADecl ss Later)) r
+Phases ss Later r = Phase IsShort IsTooLong ss (Phase HasTokens LacksToken ss (Phase IsRead LacksDeclaration ss Later)) r

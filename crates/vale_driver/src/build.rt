@@ -1,4 +1,4 @@
-// A build, as far as the text that is to be written.
+// The command `build`, as far as the text that is to be written.
 
 ghost use Rattle.std.specs.Prelude.{◌≡◌, ℕ, true, List, ◌≤◌, ◌<◌, ◌^◌, length, IsTrue, IfOk, IfErr, IfSome};
 ghost use Rattle.std.specs.List.{AllByRecursion, list_all};
@@ -6,50 +6,28 @@ ghost use Rattle.vale_outside.specs.Outside.{Rose};
 ghost use Rattle.straight_line.specs.inner.Fits.{IsStraight};
 ghost use Rattle.vale_driver.specs.Certificate.{Pair, Proves};
 ghost use Rattle.vale_driver.specs.Ring.{ring_closes};
-ghost use Rattle.vale_driver.specs.Terms.{is_built};
+ghost use Rattle.vale_driver.specs.inner.ConditionTerms.{is_built};
 ghost use Rattle.vale_driver.specs.Build.{condition_hyps, condition_goal};
-ghost use Rattle.vale_driver.specs.Phases.{texts, build_of};
-ghost use Rattle.vale_driver.specs.Outcome.{IsBuilt, BuildRefused, certificate_refusal, step_refusal};
-ghost use Rattle.vale_driver.specs.Stops.{StopsBy, FileHolds, CertificateRefusal};
+ghost use Rattle.vale_driver.specs.Words.{texts};
+ghost use Rattle.vale_driver.specs.inner.Phases.{build_of};
+ghost use Rattle.vale_driver.specs.Builds.{IsBuilt, BuildRefused};
+ghost use Rattle.vale_driver.specs.inner.Stops.{StopsBy, FileHolds, CertificateRefusal};
 
+use crate::cause::{Cause, refusal_of};
 use crate::certificate::{CertificateFault, Pair, read_certificate};
 use crate::code::items_of;
 use crate::condition::condition;
 use crate::ring::ring_closes;
 use crate::sources::read_sources;
-use crate::status::Refusal;
-use crate::stop::{Stop, fetch, refusal};
+use crate::stop::{Stop, fetch};
 use crate::words::BuildWords;
 use gas_text::print;
 use std::alloc::{AllocError, Global};
 use straight_line::StraightLine;
 use vale_outside::Store;
-use x64_syntax::Text;
 
 /// The most bytes of a certificate.
 const CERTIFICATE_LIMIT: usize = 67108864;
-
-// The refusal of the certificate's step.
-fn not_closed(alloc: Global, cert: &str, name: &[u8]) -> Result<Refusal, AllocError>
-    ensures { IfOk result (λ r. r ≡ step_refusal cert.now name.now) }
-{
-    let mut who = Vec::from_slice(alloc, name)?;
-    who.extend_from_slice(b"()#0")?;
-    Ok(Refusal {
-        number: 11,
-        file: Some(Text::from_slice(alloc, cert.as_bytes())?),
-        at: Some(2),
-        who: Some(Text::from_vec(who)),
-        cause: Text::from_slice(alloc, b"step 0")?,
-    })
-}
-
-// The refusal of a certificate that isn't of the form.
-fn no_certificate(alloc: Global, cert: &str) -> Result<Refusal, AllocError>
-    ensures { IfOk result (λ r. r ≡ certificate_refusal cert.now) }
-{
-    refusal(alloc, 9, cert, Some(1), b"NotBuilt")
-}
 
 // The steps of a certificate for a procedure of this name.
 fn certificate_file<S: Store>(
@@ -64,11 +42,15 @@ fn certificate_file<S: Store>(
     ensures count { S.faults store.old ≤ S.faults store.new }
 {
     let Some(bytes) = fetch(alloc, store, cert, CERTIFICATE_LIMIT)? else {
-        return Err(Stop::Refused(no_certificate(alloc, cert)?));
+        let refusal = refusal_of(alloc, Cause::NoCertificate(cert))?;
+        return Err(Stop::Refused(refusal));
     };
     match read_certificate(alloc, name, &bytes) {
         Ok(steps) => Ok(steps),
-        Err(CertificateFault::NotOfForm) => Err(Stop::Refused(no_certificate(alloc, cert)?)),
+        Err(CertificateFault::NotOfForm) => {
+            let refusal = refusal_of(alloc, Cause::NoCertificate(cert))?;
+            Err(Stop::Refused(refusal))
+        }
         Err(CertificateFault::NoMemory) => Err(Stop::NoMemory),
     }
 }
@@ -99,7 +81,8 @@ pub(crate) fn build<S: Store>(
     let program = read_sources(alloc, store, words.files)?;
     let steps = certificate_file(alloc, store, words.cert, program.name.as_bytes())?;
     if !closes(alloc, &program, &steps)? {
-        let refusal = not_closed(alloc, words.cert, program.name.as_bytes())?;
+        let cause = Cause::NoStep(words.cert, program.name.as_bytes());
+        let refusal = refusal_of(alloc, cause)?;
         return Err(Stop::Refused(refusal));
     }
     let items = items_of(alloc, &program)?;

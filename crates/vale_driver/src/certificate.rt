@@ -2,7 +2,9 @@
 
 ghost use Rattle.std.specs.Prelude.{◌≡◌, ◌≤◌, List, length, IfOk};
 ghost use Rattle.std.specs.Option.{option_copied, option_map};
-ghost use Rattle.vale_driver.specs.Certificate.{pair_at, more_at, with_pairs, begins_pair, pairs_at, opening_at, certificate_at, certificate_limit, ends, Pair, Proves, Reads};
+ghost use Rattle.vale_driver.specs.inner.CertificateFront.{pair_at, more_at, with_pairs, begins_pair, pairs_at, opening_at, certificate_at, ends, Reads};
+ghost use Rattle.vale_driver.specs.Limits.{certificate_limit};
+ghost use Rattle.vale_driver.specs.Certificate.{Pair, Proves};
 
 use crate::reading::{after, number};
 use std::alloc::{AllocError, AllocFailed, Global};
@@ -56,7 +58,7 @@ pub(crate) fn read_certificate(
     pairs_of(alloc, name, bytes)
 }
 
-#[tactic(auto, unfolding(crate::specs::Certificate::certificate_at))]
+#[tactic(auto, unfolding(crate::specs::inner::CertificateFront::certificate_at))]
 fn pairs_of(alloc: Global, name: &[u8], bytes: &[u8]) -> Result<Vec<Pair>, CertificateFault>
     ensures { Reads (λ v. v.items) (certificate_at name.now bytes.now) result }
 {
@@ -74,7 +76,7 @@ fn pairs_of(alloc: Global, name: &[u8], bytes: &[u8]) -> Result<Vec<Pair>, Certi
     }
 }
 
-#[tactic(auto, unfolding(crate::specs::Certificate::opening_at))]
+#[tactic(auto, unfolding(crate::specs::inner::CertificateFront::opening_at))]
 fn opening<'a>(name: &[u8], bytes: &'a [u8]) -> Option<&'a [u8]>
     ensures { option_copied result ≡ opening_at name.now bytes.now }
 {
@@ -83,7 +85,7 @@ fn opening<'a>(name: &[u8], bytes: &'a [u8]) -> Option<&'a [u8]>
     after(rest, b"()#0\"}\n[\"ring\",[")
 }
 
-#[tactic(auto, unfolding(crate::specs::Certificate::pairs_at))]
+#[tactic(auto, unfolding(crate::specs::inner::CertificateFront::pairs_at))]
 fn read_pairs(alloc: Global, bytes: &[u8]) -> Result<(Vec<Pair>, &[u8]), CertificateFault>
     ensures { Reads (λ x. (x.0.items, x.1.now)) (pairs_at bytes.now) result }
 {
@@ -126,7 +128,7 @@ fn begins_pair(bytes: &[u8]) -> bool
     }
 }
 
-#[tactic(auto, unfolding(crate::specs::Certificate::pair_at))]
+#[tactic(auto, unfolding(crate::specs::inner::CertificateFront::pair_at))]
 fn pair(bytes: &[u8]) -> Option<(Pair, &[u8])>
     ensures { option_map (λ x. (x.0, x.1.now)) result ≡ pair_at bytes.now }
 {

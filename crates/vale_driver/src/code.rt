@@ -3,7 +3,7 @@
 ghost use Rattle.std.specs.Prelude.{◌≡◌, ◌≤◌, IfOk};
 ghost use Rattle.straight_line.specs.Form.{statement_limit};
 ghost use Rattle.x64_syntax.specs.Code.{prog};
-ghost use Rattle.vale_driver.specs.Build.{steps_of, lowered_code};
+ghost use Rattle.vale_driver.specs.Build.{straight_code, lowered_code};
 
 use code_lower::lower;
 use sqlite_items::Items;
@@ -13,7 +13,7 @@ use x64_syntax::{Code, Ins, Item, Node};
 
 // The code of instructions one after another, none of which accesses memory.
 fn code_of(alloc: Global, instructions: &[Ins]) -> Result<Code, NoMemory>
-    ensures { IfOk result (λ code. prog code ≡ steps_of instructions.now) }
+    ensures { IfOk result (λ code. prog code ≡ straight_code instructions.now) }
 {
     let mut code = Items::new(alloc);
     for ins in instructions {

@@ -1,4 +1,4 @@
-// The condition of a procedure: the equations of its instructions, over numbered versions of places, and what is to follow.
+// The condition of a procedure: the equations of its instructions, over sources_from versions of places, and what is to follow.
 
 ghost use Rattle.std.specs.Prelude.{◌≡◌, ◌<◌, ◌+◌, ◌^◌, ◌++◌, pos, true, length, map, IfOk, OnOk};
 ghost use Rattle.std.specs.List.{list_all};
@@ -10,7 +10,7 @@ ghost use Rattle.term_core.specs.Terms as tm;
 ghost use Rattle.x64_meaning.specs.Exp.{Before, After};
 ghost use Rattle.x64_meaning.specs.Table.{source, equations};
 ghost use Rattle.x64_meaning.specs.Condition.{hypothesis, straight_hyps, first_versions, end_versions};
-ghost use Rattle.vale_driver.specs.Terms.{is_built, changed_bits, present, term, move_term, sum_term, carry_term, zero_term, sign_term, overflow_term, addition_terms, promise_term};
+ghost use Rattle.vale_driver.specs.inner.ConditionTerms.{is_built, changed_bits, present_versions, term, move_term, sum_term, carry_term, zero_term, sign_term, overflow_term, addition_terms, promise_term};
 ghost use Rattle.vale_driver.specs.Build.{condition_hyps, condition_goal};
 
 use crate::versions::Versions;
@@ -60,7 +60,7 @@ fn reaches(alloc: Global, bound: i128, a: Term) -> Result<Term, NoMemory>
 
 // A source operand's value before the instruction. What is loaded stands for 0: no instruction of the form loads.
 fn source(alloc: Global, versions: &Versions, s: &Opr) -> Result<Term, NoMemory>
-    ensures { IfOk result (λ t. tree t ≡ term (present versions.now) (source s.now)) }
+    ensures { IfOk result (λ t. tree t ≡ term (present_versions versions.now) (source s.now)) }
 {
     match s {
         Opr::R(r) => version(alloc, Place::Reg(*r), versions.register(*r)),
@@ -74,20 +74,20 @@ fn source(alloc: Global, versions: &Versions, s: &Opr) -> Result<Term, NoMemory>
 struct Written<'a> {
     d: Reg,
     versions: &'a Versions,
-    ghost register_fits: { present versions.now (place.Reg d) + 1 < 2 ^ 64 },
+    ghost register_fits: { present_versions versions.now (place.Reg d) + 1 < 2 ^ 64 },
     ghost flags_fit: { versions.now.flags + 1 < 2 ^ 64 },
 }
 
 impl<'a> Written<'a> {
     // The register before and after.
     fn before(&self, alloc: Global) -> Result<Term, NoMemory>
-        ensures { IfOk result (λ t. tree t ≡ term (present self.now.versions.now) (Before (place.Reg self.now.d))) }
+        ensures { IfOk result (λ t. tree t ≡ term (present_versions self.now.versions.now) (Before (place.Reg self.now.d))) }
     {
         version(alloc, Place::Reg(self.d), self.versions.register(self.d))
     }
 
     fn after(&self, alloc: Global) -> Result<Term, NoMemory>
-        ensures { IfOk result (λ t. tree t ≡ term (present self.now.versions.now) (After (place.Reg self.now.d))) }
+        ensures { IfOk result (λ t. tree t ≡ term (present_versions self.now.versions.now) (After (place.Reg self.now.d))) }
     {
         version(
             alloc,
@@ -97,15 +97,15 @@ impl<'a> Written<'a> {
     }
 
     fn flag(&self, alloc: Global, flag: FlagName) -> Result<Term, NoMemory>
-        ensures { IfOk result (λ t. tree t ≡ term (present self.now.versions.now) (After (place.Flag flag))) }
+        ensures { IfOk result (λ t. tree t ≡ term (present_versions self.now.versions.now) (After (place.Flag flag))) }
     {
         version(alloc, Place::Flag(flag), self.versions.flags() + 1)
     }
 
     // The register is the source.
-    #[tactic(auto, unfolding(crate::specs::Terms::move_term))]
+    #[tactic(auto, unfolding(crate::specs::inner::ConditionTerms::move_term))]
     fn moved(&self, alloc: Global, s: &Opr) -> Result<Term, NoMemory>
-        ensures { IfOk result (λ t. tree t ≡ move_term (present self.now.versions.now) self.now.d s.now) }
+        ensures { IfOk result (λ t. tree t ≡ move_term (present_versions self.now.versions.now) self.now.d s.now) }
     {
         let after = self.after(alloc)?;
         let source = source(alloc, self.versions, s)?;
@@ -113,9 +113,9 @@ impl<'a> Written<'a> {
     }
 
     // The register is the sum.
-    #[tactic(auto, unfolding(crate::specs::Terms::sum_term))]
+    #[tactic(auto, unfolding(crate::specs::inner::ConditionTerms::sum_term))]
     fn sum(&self, alloc: Global, s: &Opr) -> Result<Term, NoMemory>
-        ensures { IfOk result (λ t. tree t ≡ sum_term (present self.now.versions.now) self.now.d s.now) }
+        ensures { IfOk result (λ t. tree t ≡ sum_term (present_versions self.now.versions.now) self.now.d s.now) }
     {
         let after = self.after(alloc)?;
         let before = self.before(alloc)?;
@@ -125,9 +125,9 @@ impl<'a> Written<'a> {
     }
 
     // The carry flag is whether the sum of the numbers reaches 2^64.
-    #[tactic(auto, unfolding(crate::specs::Terms::carry_term))]
+    #[tactic(auto, unfolding(crate::specs::inner::ConditionTerms::carry_term))]
     fn carry(&self, alloc: Global, s: &Opr) -> Result<Term, NoMemory>
-        ensures { IfOk result (λ t. tree t ≡ carry_term (present self.now.versions.now) self.now.d s.now) }
+        ensures { IfOk result (λ t. tree t ≡ carry_term (present_versions self.now.versions.now) self.now.d s.now) }
     {
         let flag = self.flag(alloc, FlagName::Cf)?;
         let before = self.before(alloc)?;
@@ -140,9 +140,9 @@ impl<'a> Written<'a> {
     }
 
     // The zero flag is whether the register is 0.
-    #[tactic(auto, unfolding(crate::specs::Terms::zero_term))]
+    #[tactic(auto, unfolding(crate::specs::inner::ConditionTerms::zero_term))]
     fn zero(&self, alloc: Global) -> Result<Term, NoMemory>
-        ensures { IfOk result (λ t. tree t ≡ zero_term (present self.now.versions.now) self.now.d) }
+        ensures { IfOk result (λ t. tree t ≡ zero_term (present_versions self.now.versions.now) self.now.d) }
     {
         let flag = self.flag(alloc, FlagName::Zf)?;
         let after = self.after(alloc)?;
@@ -152,9 +152,9 @@ impl<'a> Written<'a> {
     }
 
     // The sign flag is whether the register's highest bit is set.
-    #[tactic(auto, unfolding(crate::specs::Terms::sign_term))]
+    #[tactic(auto, unfolding(crate::specs::inner::ConditionTerms::sign_term))]
     fn sign(&self, alloc: Global) -> Result<Term, NoMemory>
-        ensures { IfOk result (λ t. tree t ≡ sign_term (present self.now.versions.now) self.now.d) }
+        ensures { IfOk result (λ t. tree t ≡ sign_term (present_versions self.now.versions.now) self.now.d) }
     {
         let flag = self.flag(alloc, FlagName::Sf)?;
         let after = self.after(alloc)?;
@@ -164,9 +164,9 @@ impl<'a> Written<'a> {
     }
 
     // The overflow flag is whether the sum's sign differs from both signs.
-    #[tactic(auto, unfolding(crate::specs::Terms::overflow_term))]
+    #[tactic(auto, unfolding(crate::specs::inner::ConditionTerms::overflow_term))]
     fn overflow(&self, alloc: Global, s: &Opr) -> Result<Term, NoMemory>
-        ensures { IfOk result (λ t. tree t ≡ overflow_term (present self.now.versions.now) self.now.d s.now) }
+        ensures { IfOk result (λ t. tree t ≡ overflow_term (present_versions self.now.versions.now) self.now.d s.now) }
     {
         let both = self.changed(alloc, s)?;
         let number = unary(alloc, UnOp::Int, both)?;
@@ -177,7 +177,7 @@ impl<'a> Written<'a> {
 
     // The bits in which the register after it differs from both the register before and the source.
     fn changed(&self, alloc: Global, s: &Opr) -> Result<Term, NoMemory>
-        ensures { IfOk result (λ t. tree t ≡ term (present self.now.versions.now) (changed_bits self.now.d s.now)) }
+        ensures { IfOk result (λ t. tree t ≡ term (present_versions self.now.versions.now) (changed_bits self.now.d s.now)) }
     {
         let left = self.changed_from(alloc, self.before(alloc)?)?;
         let right = self.changed_from(alloc, source(alloc, self.versions, s)?)?;
@@ -186,7 +186,7 @@ impl<'a> Written<'a> {
 
     // The bits in which a term and the register after it differ.
     fn changed_from(&self, alloc: Global, from: Term) -> Result<Term, NoMemory>
-        ensures { IfOk result (λ t. tree t ≡ tm.Bin bin.Xor (tree from) (term (present self.now.versions.now) (After (place.Reg self.now.d)))) }
+        ensures { IfOk result (λ t. tree t ≡ tm.Bin bin.Xor (tree from) (term (present_versions self.now.versions.now) (After (place.Reg self.now.d)))) }
     {
         let after = self.after(alloc)?;
         binary(alloc, BinOp::Xor, from, after)
@@ -194,7 +194,7 @@ impl<'a> Written<'a> {
 
     // Appends the equations of an addition.
     fn push_addition(&self, alloc: Global, s: &Opr, hyps: &mut Items<Term>) -> Result<(), NoMemory>
-        ensures { OnOk result (trees hyps.new ≡ trees hyps.old ++ addition_terms (present self.now.versions.now) self.now.d s.now) }
+        ensures { OnOk result (trees hyps.new ≡ trees hyps.old ++ addition_terms (present_versions self.now.versions.now) self.now.d s.now) }
     {
         hyps.push(self.sum(alloc, s)?)?;
         hyps.push(self.carry(alloc, s)?)?;
@@ -212,9 +212,9 @@ fn push_instruction(
     ins: &Ins,
     hyps: &mut Items<Term>,
 ) -> Result<(), NoMemory>
-    requires fits { (p : APlace) → present versions.now p + 1 < 2 ^ 64 }
+    requires fits { (p : APlace) → present_versions versions.now p + 1 < 2 ^ 64 }
     requires built { is_built ins.now ≡ true }
-    ensures { OnOk result (trees hyps.new ≡ trees hyps.old ++ map (hypothesis (present versions.now)) (equations ins.now)) }
+    ensures { OnOk result (trees hyps.new ≡ trees hyps.old ++ map (hypothesis (present_versions versions.now)) (equations ins.now)) }
 {
     match ins {
         Ins::Mov { d, s } => {
@@ -243,7 +243,7 @@ fn push_hypotheses(
     requires few { length instructions.now < 2 ^ 63 }
     requires built { list_all is_built instructions.now ≡ true }
     ensures hyps { OnOk result (trees hyps.new ≡ trees hyps.old ++ straight_hyps instructions.now) }
-    ensures last { IfOk result (λ v. present v ≡ end_versions first_versions instructions.now) }
+    ensures last { IfOk result (λ v. present_versions v ≡ end_versions first_versions instructions.now) }
 {
     let mut versions = Versions::first();
     for ins in instructions {
@@ -267,9 +267,9 @@ pub(crate) fn condition(alloc: Global, program: &StraightLine) -> Result<Sequent
 }
 
 // What the register of the promise holds at the end, and what it is to hold.
-#[tactic(auto, unfolding(crate::specs::Terms::promise_term))]
+#[tactic(auto, unfolding(crate::specs::inner::ConditionTerms::promise_term))]
 fn promise(alloc: Global, last: &Versions, promise: Promise) -> Result<Term, NoMemory>
-    ensures { IfOk result (λ t. tree t ≡ promise_term (present last.now) promise) }
+    ensures { IfOk result (λ t. tree t ≡ promise_term (present_versions last.now) promise) }
 {
     let (reg, wanted) = match promise {
         Promise::Constant(reg, k) => (reg, Term::W64(k)),

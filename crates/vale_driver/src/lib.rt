@@ -3,12 +3,13 @@
 #![tactic(auto)]
 
 mod build;
+mod cause;
 mod certificate;
 mod code;
 mod condition;
-mod evaluation;
-mod listing;
+mod eval;
 mod program;
+mod read;
 mod reading;
 mod report;
 mod ring;

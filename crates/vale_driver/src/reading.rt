@@ -4,14 +4,14 @@ ghost use Rattle.std.specs.Prelude.{◌≡◌, ◌≤◌, length};
 ghost use Rattle.std.specs.List.{prefix_len};
 ghost use Rattle.std.specs.Option.{option_copied, option_map};
 ghost use Rattle.x64_syntax.specs.Words.{is_digit_byte};
-ghost use Rattle.vale_driver.specs.Reading.{strip, span, number_of, number_at};
+ghost use Rattle.vale_driver.specs.inner.Fronts.{strip, span, number_of, number_at};
 
 use itoa::Buffer;
 use std::str;
 use x64_syntax::is_digit;
 
 /// The bytes after a literal text.
-#[tactic(auto, unfolding(crate::specs::Reading::strip))]
+#[tactic(auto, unfolding(crate::specs::inner::Fronts::strip))]
 pub(crate) fn after<'a>(bytes: &'a [u8], literal: &[u8]) -> Option<&'a [u8]>
     ensures { option_copied result ≡ strip literal.now bytes.now }
 {
@@ -19,7 +19,7 @@ pub(crate) fn after<'a>(bytes: &'a [u8], literal: &[u8]) -> Option<&'a [u8]>
 }
 
 /// The digits at the front, and the rest.
-#[tactic(auto, unfolding(crate::specs::Reading::span))]
+#[tactic(auto, unfolding(crate::specs::inner::Fronts::span))]
 fn digits(bytes: &[u8]) -> (&[u8], &[u8])
     ensures { (result.0.now, result.1.now) ≡ span is_digit_byte bytes.now }
 {
@@ -39,7 +39,7 @@ fn digits_len(bytes: &[u8]) -> usize
 }
 
 /// A decimal number without leading zeros, and the rest.
-#[tactic(auto, unfolding(crate::specs::Reading::number_at))]
+#[tactic(auto, unfolding(crate::specs::inner::Fronts::number_at))]
 pub(crate) fn number(bytes: &[u8]) -> Option<(u64, &[u8])>
     ensures { option_map (λ x. (x.0, x.1.now)) result ≡ number_at bytes.now }
 {

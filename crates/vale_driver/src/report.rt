@@ -2,7 +2,7 @@
 
 ghost use Rattle.std.specs.Prelude.{◌≡◌, ℕ, ◌≤◌, ◌++◌, decimal, codes, IfOk, OnOk, OnErr};
 ghost use Rattle.vale_outside.specs.Outside.{Rose, Appends, AppendsFront};
-ghost use Rattle.vale_driver.specs.Outcome.{refusal_line, or_dash, number_or_dash};
+ghost use Rattle.vale_driver.specs.Lines.{refusal_line, or_dash, number_or_dash};
 
 use crate::status::Refusal;
 use itoa::Buffer;
@@ -12,7 +12,7 @@ use vale_outside::{PutFault, Sink};
 use x64_syntax::Text;
 
 /// The line of a refusal.
-#[tactic(auto, unfolding(crate::specs::Outcome::refusal_line))]
+#[tactic(auto, unfolding(crate::specs::Lines::refusal_line))]
 pub(crate) fn refusal_line(alloc: Global, refusal: &Refusal) -> Result<Vec<u8>, NoMemory>
     ensures { IfOk result (λ line. line.items ≡ refusal_line refusal.now) }
 {

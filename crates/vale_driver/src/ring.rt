@@ -4,8 +4,8 @@ ghost use Rattle.std.specs.Prelude.{◌≡◌, ◌<◌, ◌≤◌, ◌+◌, ◌-
 ghost use Rattle.std.specs.List.{list_all};
 ghost use Rattle.std.specs.Option.{option_copied, option_map};
 ghost use Rattle.term_core.specs.Terms.{tree, trees};
-ghost use Rattle.vale_driver.specs.Ring.{Occurrence, Sides, Weighted, of_words, occurrences, width, times, difference, same_atom, coefficient, balanced, sides, weighted, closes_with, ring_closes};
-ghost use Rattle.vale_driver.specs.RingCode.{seen, seen_all, atom_of, sides_of, Never, Weighs, hypothesis_sides_of};
+ghost use Rattle.vale_driver.specs.Ring.{Occurrence, Sides, Weighted, of_words, occurrences, width, times, difference, same_atom, coefficient, is_balanced, sides, weight_of, closes_with, ring_closes};
+ghost use Rattle.vale_driver.specs.inner.RingCode.{occurrence_view, occurrence_views, atom_of, sides_of, ClosesNothing, Weighs, hypothesis_sides_of};
 
 use crate::certificate::Pair;
 use sqlite_items::at as nth;
@@ -46,7 +46,7 @@ fn width_of(t: &Term) -> u64
 
 // Appends the occurrences in a term.
 fn push_occurrences<'a>(into: &mut Vec<Occurring<'a>>, t: &'a Term) -> Result<(), NoMemory>
-    ensures { OnOk result (seen_all into.new.items ≡ seen_all into.old.items ++ occurrences (tree t.now)) }
+    ensures { OnOk result (occurrence_views into.new.items ≡ occurrence_views into.old.items ++ occurrences (tree t.now)) }
 {
     match t {
         Term::W64(n) => push_one(into, *n, None),
@@ -67,7 +67,7 @@ fn push_one<'a>(
     coefficient: u64,
     atom: Option<&'a Term>,
 ) -> Result<(), NoMemory>
-    ensures { OnOk result (seen_all into.new.items ≡ seen_all into.old.items ++ record { coefficient = coefficient; atom = atom_of atom.entry } ∷ []) }
+    ensures { OnOk result (occurrence_views into.new.items ≡ occurrence_views into.old.items ++ record { coefficient = coefficient; atom = atom_of atom.entry } ∷ []) }
 {
     into.push(Occurring { coefficient, atom })?;
     Ok(())
@@ -79,7 +79,7 @@ fn push_times<'a>(
     factor: u64,
     more: &[Occurring<'a>],
 ) -> Result<(), NoMemory>
-    ensures { OnOk result (seen_all into.new.items ≡ seen_all into.old.items ++ times factor (seen_all more.now)) }
+    ensures { OnOk result (occurrence_views into.new.items ≡ occurrence_views into.old.items ++ times factor (occurrence_views more.now)) }
 {
     for o in more {
         push_one(into, factor.wrapping_mul(o.coefficient), o.atom)?;
@@ -93,7 +93,7 @@ fn difference_of<'a>(
     left: &'a Term,
     right: &'a Term,
 ) -> Result<Vec<Occurring<'a>>, NoMemory>
-    ensures { IfOk result (λ d. seen_all d.items ≡ difference (tree left.now) (tree right.now)) }
+    ensures { IfOk result (λ d. occurrence_views d.items ≡ difference (tree left.now) (tree right.now)) }
 {
     let mut taken = Vec::new(alloc);
     push_occurrences(&mut taken, right)?;
@@ -115,7 +115,7 @@ fn is_same_atom(a: Option<&Term>, b: Option<&Term>) -> bool
 
 // The coefficients of a monomial, added up modulo 2^64.
 fn coefficient_in(atom: Option<&Term>, all: &[Occurring]) -> u64
-    ensures { result ≡ coefficient (atom_of atom.entry) (seen_all all.now) }
+    ensures { result ≡ coefficient (atom_of atom.entry) (occurrence_views all.now) }
 {
     let mut sum = 0u64;
     for o in all {
@@ -128,7 +128,7 @@ fn coefficient_in(atom: Option<&Term>, all: &[Occurring]) -> u64
 
 // Whether the monomials of `of` have the same coefficient on both sides.
 fn agree<'a>(of: &[Occurring<'a>], left: &[Occurring<'a>], right: &[Occurring<'a>]) -> bool
-    ensures { result ≡ list_all (λ o. coefficient o.atom (seen_all left.now) == coefficient o.atom (seen_all right.now)) (seen_all of.now) }
+    ensures { result ≡ list_all (λ o. coefficient o.atom (occurrence_views left.now) == coefficient o.atom (occurrence_views right.now)) (occurrence_views of.now) }
 {
     for o in of {
         if coefficient_in(o.atom, left) != coefficient_in(o.atom, right) {
@@ -139,7 +139,7 @@ fn agree<'a>(of: &[Occurring<'a>], left: &[Occurring<'a>], right: &[Occurring<'a
 }
 
 fn is_balanced<'a>(left: &[Occurring<'a>], right: &[Occurring<'a>]) -> bool
-    ensures { result ≡ balanced (seen_all left.now) (seen_all right.now) }
+    ensures { result ≡ is_balanced (occurrence_views left.now) (occurrence_views right.now) }
 {
     agree(left, left, right) && agree(right, left, right)
 }
@@ -167,7 +167,7 @@ fn weigh<'a>(
     hyps: &'a [Term],
     pairs: &[Pair],
 ) -> Result<Option<(Vec<Occurring<'a>>, u64)>, NoMemory>
-    ensures { IfOk result (λ o. MatchOption o (Never (weighted (trees hyps.now) pairs.now)) (Weighs (weighted (trees hyps.now) pairs.now))) }
+    ensures { IfOk result (λ o. MatchOption o (ClosesNothing (weight_of (trees hyps.now) pairs.now)) (Weighs (weight_of (trees hyps.now) pairs.now))) }
 {
     let mut all = Vec::new(alloc);
     let mut width = 0u64;
@@ -194,7 +194,7 @@ fn hypothesis_sides(hyps: &[Term], at: usize) -> Option<(&Term, &Term)>
     }
 }
 
-/// Whether the rule applies: for every monomial the coefficients of the goal's sides and of the weighted sum of the
+/// Whether the rule applies: for every monomial the coefficients of the goal's sides and of the weight_of sum of the
 /// hypotheses' sides agree modulo 2^64, and the sides are narrow enough.
 pub(crate) fn ring_closes(
     alloc: Global,

@@ -5,19 +5,22 @@ ghost use Rattle.std.specs.List.{AllByRecursion};
 ghost use Rattle.vale_syntax.specs.inner.CodeTrees.{decl_tree};
 ghost use Rattle.straight_line.specs.inner.Fits.{IsStraight};
 ghost use Rattle.vale_outside.specs.Outside.{Rose};
-ghost use Rattle.vale_driver.specs.Sources.{refusal, FirstOf, IsShort, HasTokens, NoToken};
-ghost use Rattle.vale_driver.specs.Phases.{texts, seen_all, no_token, scan, kept, Opened, Parsed, Parses, Unparsed};
-ghost use Rattle.vale_driver.specs.Stops.{StopsBy, SourcesSpell, SourcesRefused};
+ghost use Rattle.vale_driver.specs.Causes as cause;
+ghost use Rattle.vale_driver.specs.Causes.{refusal_of};
+ghost use Rattle.vale_driver.specs.Sources.{FirstOf, IsShort, HasTokens, LacksToken};
+ghost use Rattle.vale_driver.specs.Words.{texts};
+ghost use Rattle.vale_driver.specs.inner.Phases.{source_views, lex_stop, scan, scan_view, Opened, Parsed, Parses, Unparsed};
+ghost use Rattle.vale_driver.specs.inner.Stops.{StopsBy, SourcesSpell, SourcesRefused};
 
+use crate::cause::{Cause, refusal_of};
 use crate::status::Refusal;
-use crate::stop::{Stop, fetch, refusal};
+use crate::stop::{Stop, fetch};
 use std::alloc::{AllocError, Global};
 use straight_line::{StraightLine, straight_line};
 use vale_lexer::{LexFault, tokens};
 use vale_outside::Store;
 use vale_parser::{ParseFault, read_decls};
-use vale_syntax::{Decl, MatchFault, Token};
-use x64_syntax::Text;
+use vale_syntax::{Decl, MatchFault, NotAToken, Token};
 
 /// The most bytes of a source file.
 const SOURCE_LIMIT: usize = 1048576;
@@ -44,7 +47,7 @@ fn fetch_all<'a, S: Store>(
 ) -> Result<Vec<Source<'a>>, Stop>
     requires few { length files.now < 2 ^ 32 }
     requires askable { AllByRecursion (λ f. IsTrue (S.may_ask store.old f)) (texts files.now) }
-    ensures opened { IfOk result (λ v. Opened (S.tells store.old) (texts files.now) (seen_all v.items)) }
+    ensures opened { IfOk result (λ v. Opened (S.tells store.old) (texts files.now) (source_views v.items)) }
     ensures stops { IfErr result (StopsBy (SourcesRefused (S.tells store.old) (texts files.now)) (Rose (S.faults store.old) (S.faults store.new))) }
     ensures count { S.faults store.old ≤ S.faults store.new }
     ensures same_names { (n : List ℕ) → S.may_ask store.new n ≡ S.may_ask store.old n }
@@ -53,7 +56,8 @@ fn fetch_all<'a, S: Store>(
     let mut sources = Vec::new(alloc);
     for (number, file) in files.iter().enumerate() {
         let Some(bytes) = fetch(alloc, store, file, SOURCE_LIMIT)? else {
-            return Err(Stop::Refused(refusal(alloc, 8, file, None, b"TooLong")?));
+            let refusal = refusal_of(alloc, Cause::TooLong(file))?;
+            return Err(Stop::Refused(refusal));
         };
         sources.push(Source {
             number: number as u32,
@@ -65,22 +69,22 @@ fn fetch_all<'a, S: Store>(
 }
 
 // The answer to a text without tokens.
-fn no_token(alloc: Global, file: &str, fault: LexFault) -> Result<Stop, AllocError>
-    ensures { IfOk result (λ s. s ≡ no_token file.now fault) }
+fn lex_stop(alloc: Global, file: &str, fault: LexFault) -> Result<Stop, AllocError>
+    ensures { IfOk result (λ s. s ≡ lex_stop file.now fault) }
 {
-    let (at, cause) = match fault {
-        LexFault::BadByte { at } => (at, b"BadByte".as_slice()),
-        LexFault::NumberTooLarge { at } => (at, b"NumberTooLarge".as_slice()),
-        LexFault::OpenComment { at } => (at, b"OpenComment".as_slice()),
+    let cause = match fault {
+        LexFault::BadByte { at } => Cause::NoToken(file, at, NotAToken::BadByte),
+        LexFault::NumberTooLarge { at } => Cause::NoToken(file, at, NotAToken::NumberTooLarge),
+        LexFault::OpenComment { at } => Cause::NoToken(file, at, NotAToken::OpenComment),
         LexFault::NoMemory => return Ok(Stop::NoMemory),
     };
-    Ok(Stop::Refused(refusal(alloc, 1, file, Some(at as u64), cause)?))
+    Ok(Stop::Refused(refusal_of(alloc, cause)?))
 }
 
 fn scan_all<'a>(alloc: Global, sources: &[Source<'a>]) -> Result<Vec<Scanned<'a>>, Stop>
-    requires { AllByRecursion IsShort (seen_all sources.now) }
-    ensures scanned { IfOk result (λ v. map kept v.items ≡ map scan (seen_all sources.now)) }
-    ensures stops { IfErr result (StopsBy (FirstOf HasTokens NoToken (seen_all sources.now)) ⊥) }
+    requires { AllByRecursion IsShort (source_views sources.now) }
+    ensures scanned { IfOk result (λ v. map scan_view v.items ≡ map scan (source_views sources.now)) }
+    ensures stops { IfErr result (StopsBy (FirstOf HasTokens LacksToken (source_views sources.now)) ⊥) }
 {
     let mut scanned = Vec::new(alloc);
     for source in sources {
@@ -89,7 +93,7 @@ fn scan_all<'a>(alloc: Global, sources: &[Source<'a>]) -> Result<Vec<Scanned<'a>
                 name: source.name,
                 tokens,
             })?,
-            Err(fault) => return Err(no_token(alloc, source.name, fault)?),
+            Err(fault) => return Err(lex_stop(alloc, source.name, fault)?),
         }
     }
     Ok(scanned)
@@ -104,7 +108,8 @@ fn parse_all<'a>(alloc: Global, scanned: &[Scanned<'a>]) -> Result<Vec<Decl>, St
         match read_decls(alloc, &source.tokens) {
             Ok(mut read) => decls.append(&mut read)?,
             Err(ParseFault::NotADecl { first }) => {
-                let refused = refusal(alloc, 2, source.name, Some(first.at as u64), b"NotADecl")?;
+                let cause = Cause::NoDeclaration(source.name, first.at);
+                let refused = refusal_of(alloc, cause)?;
                 return Err(Stop::Refused(refused));
             }
             Err(ParseFault::NoMemory) => return Err(Stop::NoMemory),
@@ -115,17 +120,11 @@ fn parse_all<'a>(alloc: Global, scanned: &[Scanned<'a>]) -> Result<Vec<Decl>, St
 
 // The refusal of sources of no form that is built, which names the first.
 fn no_form(alloc: Global, files: &[String]) -> Result<Refusal, AllocError>
-    ensures { IfOk result (λ r. r ≡ refusal 2 (slice_get (texts files.now) 0) (Some 0) (codes "NotBuilt")) }
+    ensures { IfOk result (λ r. r ≡ refusal_of (cause.NoForm (slice_get (texts files.now) 0))) }
 {
     match files {
-        [] => Ok(Refusal {
-            number: 2,
-            file: None,
-            at: Some(0),
-            who: None,
-            cause: Text::from_slice(alloc, b"NotBuilt")?,
-        }),
-        [first, ..] => refusal(alloc, 2, first, Some(0), b"NotBuilt"),
+        [] => refusal_of(alloc, Cause::NoForm(None)),
+        [first, ..] => refusal_of(alloc, Cause::NoForm(Some(first))),
     }
 }
 

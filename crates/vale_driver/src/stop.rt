@@ -1,13 +1,11 @@
 // Why a command ends without output, and what fetches files for it.
 
-ghost use Rattle.std.specs.Prelude.{◌≡◌, ℕ, List, ◌≤◌, IsTrue, IfOk, Some};
-ghost use Rattle.vale_driver.specs.Sources.{refusal};
-ghost use Rattle.vale_driver.specs.Stops.{Fetched};
+ghost use Rattle.std.specs.Prelude.{◌≡◌, ℕ, List, ◌≤◌, IsTrue};
+ghost use Rattle.vale_driver.specs.inner.Stops.{Fetched};
 
 use crate::status::Refusal;
 use std::alloc::{AllocError, AllocFailed, Global};
 use vale_outside::{FetchFault, Store};
-use x64_syntax::Text;
 
 /// Why a command ends without output.
 #[derive(Debug, Drop)]
@@ -59,23 +57,4 @@ pub(crate) fn fetch<S: Store>(
         Err(FetchFault::Failed) => Err(Stop::ReadFault),
         Err(FetchFault::NoMemory) => Err(Stop::NoMemory),
     }
-}
-
-/// The refusal of a file, or of a place in it.
-pub(crate) fn refusal(
-    alloc: Global,
-    number: u8,
-    file: &str,
-    at: Option<u64>,
-    cause: &[u8],
-) -> Result<Refusal, AllocError>
-    ensures { IfOk result (λ r. r ≡ refusal number (Some file.now) at cause.now) }
-{
-    Ok(Refusal {
-        number,
-        file: Some(Text::from_slice(alloc, file.as_bytes())?),
-        at,
-        who: None,
-        cause: Text::from_slice(alloc, cause)?,
-    })
 }

@@ -5,11 +5,11 @@ ghost use Rattle.x64_syntax.specs.declared.places.Place.{Place as APlace};
 ghost use Rattle.x64_syntax.specs.declared.places.Place.TheVariants as place;
 ghost use Rattle.x64_meaning.specs.Table.{writes};
 ghost use Rattle.x64_meaning.specs.Condition.{first_versions, next_versions};
-ghost use Rattle.vale_driver.specs.Terms.{is_built, present};
+ghost use Rattle.vale_driver.specs.inner.ConditionTerms.{is_built, present_versions};
 
 use x64_syntax::{AluOp, Ins, Reg};
 
-/// The present version of each place: how often it was written. The instructions so far write all flags or none.
+/// The present_versions version of each place: how often it was written. The instructions so far write all flags or none.
 #[derive(Drop)]
 pub(crate) struct Versions {
     registers: [u64; 16],
@@ -19,7 +19,7 @@ pub(crate) struct Versions {
 impl Versions {
     /// The versions before the first instruction.
     pub(crate) fn first() -> Self
-        ensures { present result ≡ first_versions }
+        ensures { present_versions result ≡ first_versions }
     {
         Versions {
             registers: [0; 16],
@@ -29,7 +29,7 @@ impl Versions {
 
     /// The version of a register.
     pub(crate) fn register(&self, reg: Reg) -> u64
-        ensures { result ≡ present self.now (place.Reg reg) }
+        ensures { result ≡ present_versions self.now (place.Reg reg) }
     {
         self.registers[reg.number()]
     }
@@ -43,9 +43,9 @@ impl Versions {
 
     /// Goes on to the versions behind an instruction.
     pub(crate) fn pass(&mut self, ins: &Ins)
-        requires fits { (p : APlace) → present self.old p + 1 < 2 ^ 64 }
+        requires fits { (p : APlace) → present_versions self.old p + 1 < 2 ^ 64 }
         requires built { is_built ins.now ≡ true }
-        ensures { present self.new ≡ next_versions (present self.old) (writes ins.now) }
+        ensures { present_versions self.new ≡ next_versions (present_versions self.old) (writes ins.now) }
     {
         match ins {
             Ins::Mov { d, .. } => self.write(*d),
@@ -62,8 +62,8 @@ impl Versions {
     }
 
     fn write(&mut self, reg: Reg)
-        requires { present self.old (place.Reg reg) + 1 < 2 ^ 64 }
-        ensures { present self.new ≡ next_versions (present self.old) (place.Reg reg ∷ []) }
+        requires { present_versions self.old (place.Reg reg) + 1 < 2 ^ 64 }
+        ensures { present_versions self.new ≡ next_versions (present_versions self.old) (place.Reg reg ∷ []) }
     {
         self.registers[reg.number()] += 1;
     }

@@ -2,8 +2,8 @@
 
 ghost use Rattle.std.specs.Prelude.{◌≡◌, IfSome};
 ghost use Rattle.std.specs.Option.{option_map};
-ghost use Rattle.vale_driver.specs.Words.{once, with_option, is_option, no_options, read_options, is_gas, is_build, is_read, is_eval, one_file, build_form, read_form, eval_form, form, is_value, are_files, is_number, steps_of};
-ghost use Rattle.vale_driver.specs.Phases.{texts, options_of, words_left, command_of, FewFiles};
+ghost use Rattle.vale_driver.specs.Words.{once, with_option, is_option, no_options, read_options, is_gas, is_build_command, is_read_command, is_eval_command, one_file, build_form, read_form, eval_form, form, is_value, are_files, is_number, step_count, texts};
+ghost use Rattle.vale_driver.specs.inner.Phases.{options_of, words_left, command_of, FewFiles};
 
 use x64_syntax::is_digit;
 
@@ -120,7 +120,7 @@ fn is_gas(syntax: Option<&str>) -> bool
 
 impl Options<'_> {
     fn is_build(self) -> bool
-        ensures { result ≡ is_build (options_of self.entry) }
+        ensures { result ≡ is_build_command (options_of self.entry) }
     {
         if !is_gas(self.syntax) || self.entry.is_some() {
             return false;
@@ -129,13 +129,13 @@ impl Options<'_> {
     }
 
     fn is_read(self) -> bool
-        ensures { result ≡ is_read (options_of self.entry) }
+        ensures { result ≡ is_read_command (options_of self.entry) }
     {
         self.cert.is_none() && self.is_build()
     }
 
     fn is_eval(self) -> bool
-        ensures { result ≡ is_eval (options_of self.entry) }
+        ensures { result ≡ is_eval_command (options_of self.entry) }
     {
         is_gas(self.syntax) && self.cert.is_none()
     }
@@ -185,7 +185,7 @@ fn eval_words<'a>(options: Options<'a>, files: &'a [String]) -> Option<Command<'
     let text = one_file(files)?;
     let entry = options.entry?;
     let state = options.state?;
-    let steps = steps_of(options.steps?)?;
+    let steps = step_count(options.steps?)?;
     Some(Command::Eval(EvalWords {
         text,
         entry,
@@ -256,8 +256,8 @@ fn is_number(word: &[u8]) -> bool
     true
 }
 
-fn steps_of(word: &str) -> Option<u64>
-    ensures { result ≡ steps_of word.now }
+fn step_count(word: &str) -> Option<u64>
+    ensures { result ≡ step_count word.now }
 {
     if !is_number(word.as_bytes()) {
         return None;

@@ -2,14 +2,15 @@ use Rattle.std.proofs.Common.{ap, sym, ◌∙◌, arith}
 use Rattle.std.proofs.lemmas.Result.{err_from_is_err_and}
 use Rattle.vale_driver.specs.Ring.{ring_closes}
 use Rattle.vale_driver.specs.Build.{condition_hyps, condition_goal}
+use Rattle.vale_driver.specs.Words.{texts}
+use Rattle.vale_driver.specs.Causes.{refusal_of}
 use Rattle.x64_syntax.specs.Programs.{program_ok}
 use Rattle.gas_text.specs.Gas.{gas_text}
-use Rattle.vale_driver.specs.Outcome.{step_refusal}
-use Rattle.vale_driver.specs.Phases.{texts}
 use Rattle.vale_driver.proofs.Files.{stops_also}
 use Rattle.vale_driver.proofs.Refused.{sources_refused, certificate_refused, step_refused}
 use Rattle.vale_driver.proofs.Built.{all_have_conditions, program, built_from}
 use Rattle.vale_driver.proofs.build.build.Goals as goal
+use Rattle.vale_driver.specs.Causes as cause
 
 pub returns-in_err-program-clause-stops : goal.returns-in_err-program-clause-stops
 returns-in_err-program-clause-stops g c =
@@ -28,7 +29,7 @@ returns-then-not-branch-clause-stops g c =
     let proves = rw c.as_bytes.ensures at c.in_ok-steps.ensures.found in
     let closes = ap (ring_closes (condition_hyps c.in_ok-program.program) (condition_goal c.in_ok-program.program)) (sym c.deref.ensures.value) ∙ sym c.in_ok-closes.ensures ∙ c.if-not-branch.true in
     step_refused (g.S.Store.tells c.args.store.now) _ c.args.words.cert.now (texts c.args.words.files.now) c.in_ok-program.program c.in_ok-steps.steps.items _ c.in_ok-program.ensures.found (c.in_ok-program.ensures.same_files c.args.words.cert.now) proves closes
-    (c.in_ok-refusal.ensures ∙ ap (step_refusal c.args.words.cert.now) c.as_bytes-then-not-branch.ensures)
+    (c.in_ok-refusal.ensures ∙ ap (λ n. refusal_of (cause.NoStep c.args.words.cert.now n)) c.as_bytes-then-not-branch.ensures)
 
 pub returns-clause-built : goal.returns-clause-built
 returns-clause-built g c =

@@ -1,5 +1,5 @@
 use Rattle.std.proofs.Common.{◌≡◌, ◌-◌, length}
-use Rattle.vale_driver.specs.Certificate.{more_at, with_pairs}
+use Rattle.vale_driver.specs.inner.CertificateFront.{more_at, with_pairs}
 use Rattle.vale_driver.proofs.certificate.more_pairs.Given as goal
 
 -- what is read so far, in front of what is still to be read, is what all of it gives

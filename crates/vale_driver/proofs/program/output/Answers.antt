@@ -2,8 +2,8 @@ use Rattle.std.proofs.Common.{sym, subst}
 use Rattle.std.specs.Prelude.{IfErr}
 use Rattle.vale_outside.specs.Outside.{Rose}
 use Rattle.vale_driver.specs.Commands.{IsRefused}
-use Rattle.vale_driver.specs.Stops.{StopsBy}
-use Rattle.vale_driver.specs.Phases.{command_of}
+use Rattle.vale_driver.specs.inner.Stops.{StopsBy}
+use Rattle.vale_driver.specs.inner.Phases.{command_of}
 use Rattle.vale_driver.proofs.Quiet.{build_stops}
 use Rattle.vale_driver.proofs.program.output.Goals as goal
 

@@ -15,11 +15,11 @@ pub loop-end-preserved : goal.loop-end-preserved
 loop-end-preserved g c =
     let rest = c.loop-end.rest.now in
     let split = taken_apart (c.in-Some.end + 1) rest c.split_at.result.0.now c.split_at.result.1.now c.split_at.ensures.front c.split_at.ensures.back in
-    let kept = c.loop-end.invariant.count in
+    let scan_view = c.loop-end.invariant.count in
     let grown = c.in_ok-put.ensures.count in
     record {
       written = written_next _ _ _ c.args.text.now rest c.split_at.result.0.now c.split_at.result.1.now c.loop-end.invariant.written split c.in_ok-put.ensures.ok;
-      count = omega (arith, kept, grown);
+      count = omega (arith, scan_view, grown);
     }
 
 pub returns-in_err-put-2-clause-front : goal.returns-in_err-put-2-clause-front

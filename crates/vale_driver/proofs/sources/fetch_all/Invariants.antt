@@ -1,5 +1,5 @@
 use Rattle.std.proofs.Common.{◌≡◌, ℕ, ◌≤◌, List, drop}
-use Rattle.vale_driver.specs.Phases.{texts}
+use Rattle.vale_driver.specs.Words.{texts}
 use Rattle.vale_driver.proofs.Going.{Fetching}
 use Rattle.vale_driver.proofs.sources.fetch_all.Given as goal
 

@@ -1,6 +1,5 @@
 use Rattle.std.proofs.Common.{◌+◌, Some, Err, ap, ◌∙◌, subst, drop, map}
 use Rattle.std.specs.Prelude.{codes}
-use Rattle.vale_driver.specs.Sources.{refusal}
 use Rattle.std.proofs.lemmas.List.{map-append}
 use Rattle.vale_syntax.specs.inner.CodeTrees.{decl_tree}
 use Rattle.vale_syntax.specs.Declarations.{AreDecls}
@@ -8,13 +7,15 @@ use Rattle.vale_parser.specs.Sources.{StopsAt}
 use Rattle.vale_driver.proofs.Files.{turn, parsed_one, refused_decl, parsed_all}
 use Rattle.vale_driver.proofs.RingCode.{drop_all}
 use Rattle.vale_driver.proofs.sources.parse_all.Goals as goal
+use Rattle.vale_driver.specs.Causes as cause
+use Rattle.vale_driver.specs.Causes.{refusal_of}
 
 pub returns-in-Err-NotADecl-clause-stops : goal.returns-in-Err-NotADecl-clause-stops
 returns-in-Err-NotADecl-clause-stops c =
     let k = c.loop-source.source-index in
     refused_decl (map decl_tree c.loop-source.decls.items) c.source-item.result (drop (k + 1) c.args.scanned.now) (drop k c.args.scanned.now) c.args.scanned.now c.in_ok-refused-in-Err-NotADecl.refused
     (turn c.args.scanned.now k c.source-item.result c.loop-source-test.true c.source-item.is)
-    record { first = c.in-Err-NotADecl.first; stops = subst (λ l. StopsAt l c.in-Err-NotADecl.first) c.deref.ensures.value (c.in-Err-NotADecl.ensures.not_a_decl c.in-Err-NotADecl.first (ap Err c.in-Err-NotADecl.field-0-is)); is = c.in_ok-refused-in-Err-NotADecl.ensures ∙ ap (λ s. refusal 2 (Some c.source-item.result.name.now) (Some s.at) (codes "NotADecl")) c.in-Err-NotADecl.first-is }
+    record { first = c.in-Err-NotADecl.first; stops = subst (λ l. StopsAt l c.in-Err-NotADecl.first) c.deref.ensures.value (c.in-Err-NotADecl.ensures.not_a_decl c.in-Err-NotADecl.first (ap Err c.in-Err-NotADecl.field-0-is)); is = c.in_ok-refused-in-Err-NotADecl.ensures ∙ ap (λ s. refusal_of (cause.NoDeclaration c.source-item.result.name.now s.at)) c.in-Err-NotADecl.first-is }
     c.loop-source.invariant
 
 pub loop-source-preserved : goal.loop-source-preserved

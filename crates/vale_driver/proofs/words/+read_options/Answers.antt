@@ -1,6 +1,6 @@
 use Rattle.std.proofs.Common.{◌≡◌, ◌-◌, ◌∷◌, length, take, drop, sym, ap, ◌∙◌, true}
-use Rattle.vale_driver.specs.Words.{read_options, with_option, is_option, name_of}
-use Rattle.vale_driver.specs.Phases.{options_of, texts}
+use Rattle.vale_driver.specs.Words.{read_options, with_option, is_option, name_of, texts}
+use Rattle.vale_driver.specs.inner.Phases.{options_of}
 use Rattle.vale_driver.proofs.Options.{first_text, with_equals, without_equals, cut_there, cut_nowhere}
 use Rattle.vale_driver.proofs.words.+read_options.Goals as goal
 

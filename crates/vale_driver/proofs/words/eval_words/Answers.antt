@@ -1,5 +1,6 @@
 use Rattle.std.proofs.Common.{sym, ap, option_map}
-use Rattle.vale_driver.specs.Phases.{options_of, texts}
+use Rattle.vale_driver.specs.inner.Phases.{options_of}
+use Rattle.vale_driver.specs.Words.{texts}
 use Rattle.vale_driver.proofs.Options.{no_steps}
 use Rattle.vale_driver.proofs.words.eval_words.Goals as goal
 

@@ -1,0 +1,87 @@
+// Runs of the program over files in memory.
+
+use crate::answer::Answer;
+use crate::script::Line;
+use anyhow::{Result, bail};
+use bstr::ByteSlice;
+use std::alloc::Global;
+use vale_driver::run;
+use vale_outside::{MemSink, MemStore};
+
+/// What a run is made of: its words, its files, and the calls that are to fail.
+#[derive(Drop)]
+pub(crate) struct Run {
+    words: Vec<String>,
+    store: MemStore,
+    out: MemSink,
+    err: MemSink,
+}
+
+fn number(text: &[u8]) -> Result<u64> {
+    Ok(str::from_utf8(text)?.parse::<u64>()?)
+}
+
+// The lines that semicolons separate.
+fn lines(alloc: Global, text: &[u8]) -> Result<Vec<u8>> {
+    Ok(text.replace(alloc, b"; ", b"\n")?)
+}
+
+impl Run {
+    pub(crate) fn new(alloc: Global) -> Self {
+        Run {
+            words: Vec::new(alloc),
+            store: MemStore::new(alloc),
+            out: MemSink::new(alloc),
+            err: MemSink::new(alloc),
+        }
+    }
+
+    fn hold(&mut self, alloc: Global, name: &[u8], bytes: Vec<u8>) -> Result<()> {
+        let name = String::from_str(alloc, str::from_utf8(name)?)?;
+        self.store.hold(name, bytes)?;
+        Ok(())
+    }
+
+    fn fail(&mut self, object: &[u8], call: u64) -> Result<()> {
+        match object {
+            b"store" => self.store.fail_at(call)?,
+            b"out" => self.out.fail_at(call)?,
+            b"err" => self.err.fail_at(call)?,
+            _ => bail!("no object that fails: {:?}", object.as_bstr()),
+        }
+        Ok(())
+    }
+
+    /// Takes a line of a case: `words ..`, `file NAME = ..`, `lines NAME = ..` or `fails OBJECT CALL`.
+    pub(crate) fn take(&mut self, alloc: Global, line: &Line<'_>, value: Vec<u8>) -> Result<()> {
+        match line.key {
+            b"words" => {
+                for word in value.as_slice().split_str(b" ") {
+                    let word = String::from_str(alloc, str::from_utf8(word)?)?;
+                    self.words.push(word)?;
+                }
+            }
+            b"file" => self.hold(alloc, line.name, value)?,
+            b"lines" => self.hold(alloc, line.name, lines(alloc, &value)?)?,
+            b"fails" => self.fail(line.name, number(&value)?)?,
+            _ => bail!("no line of a run: {:?}", line.key.as_bstr()),
+        }
+        Ok(())
+    }
+
+    /// Runs the program.
+    pub(crate) fn ends(mut self, alloc: Global) -> Result<Answer> {
+        let status = run(
+            alloc,
+            &self.words,
+            &mut self.store,
+            &mut self.out,
+            &mut self.err,
+        );
+        Ok(Answer {
+            status: status.code(),
+            out: Vec::from_slice(alloc, self.out.bytes())?,
+            err: Vec::from_slice(alloc, self.err.bytes())?,
+        })
+    }
+}
