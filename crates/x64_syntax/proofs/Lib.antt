@@ -2,3 +2,4 @@ pub mod PlaceLemmas
 pub mod Bits
 pub mod Pieces
 pub mod Lists
+pub mod ReadBack
