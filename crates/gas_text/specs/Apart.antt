@@ -9,7 +9,8 @@ use Rattle.x64_syntax.specs.declared.items.Item.TheVariants as item
 use Rattle.x64_syntax.specs.declared.operations.Operation.{Operation}
 use Rattle.x64_syntax.specs.declared.operations.Operation.TheVariants as op
 use Rattle.x64_syntax.specs.Places.{reg_of, xmm_of}
-use Rattle.x64_syntax.specs.Words.{is_digit_byte, gas_operation_of}
+use Rattle.x64_syntax.specs.Words.{is_digit_byte}
+use Rattle.x64_syntax.specs.inner.Mnemonics.{gas_operation_of}
 use Rattle.asm_lines.specs.declared.forms.Part.{Part}
 use Rattle.asm_lines.specs.declared.forms.Part.TheVariants.{General, Wide, Number, Memory}
 use Rattle.asm_lines.specs.declared.forms.Parts.{Parts}

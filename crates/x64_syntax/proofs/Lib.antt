@@ -3,3 +3,4 @@ pub mod Bits
 pub mod Pieces
 pub mod Lists
 pub mod ReadBack
+pub mod Digits

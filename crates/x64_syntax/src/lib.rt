@@ -36,6 +36,6 @@ pub use operations::{Operation, gas_named, operation_named};
 pub use place_set::PlaceSet;
 pub use places::{FlagName, Place, Reg, Xmm};
 pub use program::{is_item, program_ok, stray_jump};
-pub use text::{Text, push, push_number};
+pub use text::{Text, push, push_number, read_number};
 pub use type_words::{Abi, Kind, Sort, TypeWord, type_word_named};
 pub use words::{is_digit, is_export_name, is_name, is_name_part, is_reserved};

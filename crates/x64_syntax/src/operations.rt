@@ -147,8 +147,16 @@ impl Operation {
             Operation::XBin(XBinOp::Paddd) => written("Paddd", "paddd", "paddd"),
             Operation::XBin(XBinOp::Pshufb) => written("Pshufb", "pshufb", "pshufb"),
             Operation::XBin(XBinOp::Paddq) => written("Paddq", "paddq", "paddq"),
-            Operation::XBin(XBinOp::Punpcklqdq) => written("Punpcklqdq", "punpcklqdq", "punpcklqdq"),
-            Operation::XBin(XBinOp::Punpckhqdq) => written("Punpckhqdq", "punpckhqdq", "punpckhqdq"),
+            Operation::XBin(XBinOp::Punpcklqdq) => written(
+                "Punpcklqdq",
+                "punpcklqdq",
+                "punpcklqdq",
+            ),
+            Operation::XBin(XBinOp::Punpckhqdq) => written(
+                "Punpckhqdq",
+                "punpckhqdq",
+                "punpckhqdq",
+            ),
             Operation::XShuf => written("Pshufd", "pshufd", "pshufd"),
             Operation::XShift(XShiftOp::Pslld) => written("Pslld", "pslld", "pslld"),
             Operation::XShift(XShiftOp::Psrld) => written("Psrld", "psrld", "psrld"),
@@ -223,7 +231,10 @@ mod tests {
     #[test]
     fn instructions_have_their_own_names(rt: HostRuntime) {
         for operation in Operation::ALL {
-            assert_eq!(rt; operation_named(operation.name().as_bytes()), Some(operation));
+            assert_eq!(rt;
+                operation_named(operation.name().as_bytes()),
+                Some(operation)
+            );
         }
     }
 }
