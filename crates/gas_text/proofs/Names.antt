@@ -7,7 +7,7 @@ use Rattle.x64_syntax.specs.declared.places.Xmm.{Xmm as XmmReg}
 use Rattle.x64_syntax.specs.declared.places.Xmm.TheVariants.{Xmm0, Xmm1, Xmm2, Xmm3, Xmm4, Xmm5, Xmm6, Xmm7, Xmm8, Xmm9, Xmm10, Xmm11, Xmm12, Xmm13, Xmm14, Xmm15}
 use Rattle.x64_syntax.specs.declared.conditions.Cond.{Cond}
 use Rattle.x64_syntax.specs.declared.conditions.Cond.TheVariants as condition
-use Rattle.x64_syntax.specs.Places.{reg_name, xmm_name, reg_of, xmm_of}
+use Rattle.x64_syntax.specs.Places.{reg_name, xmm_name, reg_of}
 use Rattle.asm_lines.specs.Lines.{cond_name, cond_of}
 use Rattle.gas_text.proofs.Cuts.{is_plain}
 

@@ -1,5 +1,5 @@
 -- How a line is taken apart. Only what a line can be is found: whether it is that line is told by the printed line.
-use Rattle.std.specs.Prelude.{ℕ, ◌+◌, ◌*◌, ◌-◌, ◌^◌, ℤ, pos, neg_ℤ, nat_lt, int_le, ◌&&◌, ◌==◌, List, [], ◌∷◌, codes, Option, Some, None, option_map, option_and_then, if◌then◌else◌}
+use Rattle.std.specs.Prelude.{ℕ, ◌-◌, ◌^◌, ℤ, pos, neg_ℤ, int_le, ◌&&◌, ◌==◌, List, [], ◌∷◌, codes, Option, Some, None, option_map, option_and_then, if◌then◌else◌}
 use Rattle.std.specs.Str.{bytes_eq}
 use Rattle.x64_syntax.specs.declared.places.Reg.{Reg}
 use Rattle.x64_syntax.specs.declared.operands.Mem.{Mem}

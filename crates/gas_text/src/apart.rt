@@ -31,6 +31,7 @@ fn number(text: &[u8]) -> Option<i128>
     ensures { result ≡ number text.now }
 {
     match text {
+        [] => None,
         [b'-', magnitude @ ..] => Some(-i128::from(read_number(magnitude)?)),
         _ => Some(i128::from(read_number(text)?)),
     }
