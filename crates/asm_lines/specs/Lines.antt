@@ -6,7 +6,7 @@ use Rattle.x64_syntax.specs.declared.conditions.Cond.TheVariants as condition
 use Rattle.x64_syntax.specs.declared.operands.Opr.TheVariants.{Imm}
 use Rattle.x64_syntax.specs.declared.instructions.Ins.{Ins}
 use Rattle.x64_syntax.specs.declared.instructions.Ins.TheVariants.{Mov}
-use Rattle.x64_syntax.specs.Words.{gas_mnemonic, masm_mnemonic}
+use Rattle.x64_syntax.specs.Operations.{gas_mnemonic, masm_mnemonic}
 use Rattle.asm_lines.specs.declared.lines.Syntax.{Syntax}
 use Rattle.asm_lines.specs.declared.lines.Syntax.TheVariants.{Gas, Masm}
 use Rattle.asm_lines.specs.Operands.{operation}

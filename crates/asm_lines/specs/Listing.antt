@@ -7,7 +7,7 @@ use Rattle.x64_syntax.specs.declared.instructions.Ins.{Ins}
 use Rattle.x64_syntax.specs.declared.items.Item.{Item}
 use Rattle.x64_syntax.specs.declared.items.Item.TheVariants as item
 use Rattle.x64_syntax.specs.Places.{reg_name, xmm_name}
-use Rattle.x64_syntax.specs.Words.{operation_name}
+use Rattle.x64_syntax.specs.Operations.{operation_name}
 use Rattle.asm_lines.specs.declared.forms.Part.{Part}
 use Rattle.asm_lines.specs.declared.forms.Part.TheVariants.{General, Wide, Number, Memory}
 use Rattle.asm_lines.specs.declared.forms.Parts.{Parts}

@@ -12,7 +12,7 @@ use Rattle.x64_syntax.specs.Words.{is_export_text}
 use Rattle.x64_syntax.specs.Instructions.{form_of}
 use Rattle.x64_syntax.specs.Code.{Prog, Done, Step, If, Loop, is_step, is_test, are_forms, code_ok}
 use Rattle.x64_syntax.specs.Programs.{begins_with_entry, has_entry, entries_differ, is_item, labels_from, piece, has_label, stray_from, stray_jump, is_ordered, program_ok}
-use Rattle.x64_syntax.specs.LabelCount.{label_count}
+use Rattle.x64_syntax.specs.inner.LabelCount.{label_count}
 use Rattle.x64_syntax.proofs.Pieces.{has_within}
 use Rattle.x64_meaning.specs.Run.{StandAt}
 use Rattle.x64_meaning.proofs.Standing.{stands_between}

@@ -12,7 +12,8 @@ use Rattle.x64_syntax.specs.declared.items.Item.{Item}
 use Rattle.x64_syntax.specs.declared.items.Item.TheVariants as item
 use Rattle.x64_syntax.specs.declared.code.Node.{Node, Node-F, fold-roll-Node}
 use Rattle.x64_syntax.specs.declared.code.Node.TheVariants as node
-use Rattle.x64_syntax.specs.Code.{Prog, Done, If, Loop, node_tree, node_layer, prog}
+use Rattle.x64_syntax.specs.Code.{Prog, Done, If, Loop}
+use Rattle.x64_syntax.specs.inner.Nodes.{node_tree, node_layer, prog}
 use Rattle.code_lower.specs.Lowered.{compare, when, unless, labels, code_items}
 
 -- an element is put where it was kept a place

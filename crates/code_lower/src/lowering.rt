@@ -2,7 +2,8 @@
 
 ghost use Rattle.std.specs.Prelude.{◌≡◌, ◌<◌, ◌≤◌, ◌+◌, ◌^◌, ◌++◌, [], ◌∷◌, length, slice_set, nat_le, option_and_then, IfOk, OnOk};
 ghost use Rattle.x64_syntax.specs.declared.items.Item.TheVariants as item;
-ghost use Rattle.x64_syntax.specs.Code.{Prog, Done, node_tree, prog};
+ghost use Rattle.x64_syntax.specs.Code.{Prog, Done};
+ghost use Rattle.x64_syntax.specs.inner.Nodes.{node_tree, prog};
 ghost use Rattle.code_lower.specs.Lowered.{when, unless, compare, labels, label_room, code_items, export_items};
 
 use std::alloc::{AllocError as NoMemory, Global};

@@ -15,7 +15,8 @@ use Rattle.x64_syntax.specs.declared.instructions.Ins.{Ins}
 use Rattle.x64_syntax.specs.declared.instructions.Ins.TheVariants.{Mov, Store, Lea, Cmov, Push, Pop, Alu, One as OneIns, Shift, Imul, Mul, Mulx, Carry, XMov, XLoad, XStore, XBin, XShuf, XShift, XIns, XExt, XMovq}
 use Rattle.x64_syntax.specs.declared.forms.FormFault.TheVariants.{Immediate, Count, Scale, Register, SameHighLow}
 use Rattle.x64_syntax.specs.Numbers.{word_of}
-use Rattle.x64_syntax.specs.Instructions.{in_range, no_constant, source_memory, or_else, displacement_fits, has_scale, is_scale, constant_fits, count_fits, addresses, names_rsp, halves_differ, form_of}
+use Rattle.x64_syntax.specs.Ranges.{is_around_zero}
+use Rattle.x64_syntax.specs.Instructions.{constant_passes, no_constant, source_memory, or_else, displacement_fits, has_scale, is_scale, constant_fits, count_fits, addresses, names_rsp, halves_differ, form_of}
 use Rattle.asm_lines.specs.Operands.{within, at_most, of_source, of_moved, source, moved, operands, operation, instruction}
 use Rattle.gas_text.proofs.Operands.{Readable, readable_pos, readable_neg, Addressable, Legible, AllLegible}
 
@@ -113,7 +114,7 @@ moved_back (Imm z) h =
 moved_back (M m) h = refl
 
 -- what a form says of a source
-sourced : (n : ℕ) (s : Opr) → 0 < n → n ≤ 2 ^ 63 → in_range (negsuc (n - 1)) (pos (n - 1)) s ≡ true → displacement_fits (source_memory s) ≡ true → has_scale (source_memory s) ≡ true → Sourced s
+sourced : (n : ℕ) (s : Opr) → 0 < n → n ≤ 2 ^ 63 → constant_passes (is_around_zero n) s ≡ true → displacement_fits (source_memory s) ≡ true → has_scale (source_memory s) ≡ true → Sourced s
 sourced n (R r) some le h d k = tt
 sourced n (Imm z) some le h d k = let small = ranged n z some h in omega (arith, small, le)
 sourced n (M m) some le h d k = addressable m d k

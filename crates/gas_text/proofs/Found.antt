@@ -16,14 +16,14 @@ use Rattle.x64_syntax.specs.declared.items.Item.TheVariants as item
 use Rattle.x64_syntax.specs.declared.operations.Operation.{Operation}
 use Rattle.x64_syntax.specs.declared.operations.Operation.TheVariants as op
 use Rattle.x64_syntax.specs.Instructions.{form_of}
-use Rattle.x64_syntax.specs.Words.{gas_mnemonics, gas_instructions}
+use Rattle.x64_syntax.specs.Operations.{spelling, operations}
 use Rattle.asm_lines.specs.declared.lines.Syntax.TheVariants.{Gas}
 use Rattle.asm_lines.specs.Operands.{operands, operation, at_most}
 use Rattle.asm_lines.specs.Lines.{mnemonic}
 use Rattle.gas_text.specs.Gas.{operands_text, ins_line, line}
 use Rattle.gas_text.specs.Apart.{narrowed, called, ins_of, label_of, item_of, found, found_item}
 use Rattle.gas_text.proofs.Cuts.{lacks, cut_at}
-use Rattle.gas_text.proofs.Numbers.{read_decimal}
+use Rattle.x64_syntax.proofs.Digits.{read_back}
 use Rattle.gas_text.proofs.Operands.{parts_back}
 use Rattle.gas_text.proofs.Built.{back, at_most_back}
 
@@ -37,7 +37,7 @@ record Called (i : Ins) : Type 0 where
   pub item : (text : List ℕ) → item_of (mnemonic Gas i) text ≡ option_map item.Ins (ins_of (mnemonic Gas i) text)
 
 named : (i : Ins) → Called i
-unfolding gas_mnemonics gas_instructions
+unfolding spelling operations
 named (Mov d (R s)) = record { unbroken = refl; clean = refl; base = op.Mov; called = refl; narrow = refl; item = λ text. refl }
 named (Mov d (Imm z)) = record { unbroken = refl; clean = refl; base = op.Mov; called = refl; narrow = refl; item = λ text. refl }
 named (Mov d (M m)) = record { unbroken = refl; clean = refl; base = op.Mov; called = refl; narrow = refl; item = λ text. refl }
@@ -108,7 +108,7 @@ found_ins i h =
 
 label_back : (l : ℕ) → l < 2 ^ 32 → label_of (codes "L" ++ decimal l) ≡ Some l
 label_back l h =
-    ap (λ o. option_and_then (λ n. at_most (2 ^ 32 - 1) (pos n)) o) (read_decimal l (omega (arith, h)))
+    ap (λ o. option_and_then (λ n. at_most (2 ^ 32 - 1) (pos n)) o) (read_back l (omega (arith, h)))
     ∙ at_most_back (2 ^ 32 - 1) l (omega (arith, h))
 
 pub found_jmp : (l : ℕ) → l < 2 ^ 32 → found_item (line (item.Jmp l)) ≡ Some (item.Jmp l)

@@ -1,5 +1,4 @@
 pub mod Cuts
-pub mod Numbers
 pub mod Names
 pub mod Operands
 pub mod Built

@@ -1,4 +1,4 @@
--- Names are read back, and their bytes are plain.
+-- The bytes of names are plain, and conditions are read back.
 use Rattle.std.proofs.Common.{◌≡◌, true, refl, None, Some}
 use Rattle.std.specs.List.{list_all}
 use Rattle.x64_syntax.specs.declared.places.Reg.{Reg as GeneralReg}
@@ -7,27 +7,9 @@ use Rattle.x64_syntax.specs.declared.places.Xmm.{Xmm as XmmReg}
 use Rattle.x64_syntax.specs.declared.places.Xmm.TheVariants.{Xmm0, Xmm1, Xmm2, Xmm3, Xmm4, Xmm5, Xmm6, Xmm7, Xmm8, Xmm9, Xmm10, Xmm11, Xmm12, Xmm13, Xmm14, Xmm15}
 use Rattle.x64_syntax.specs.declared.conditions.Cond.{Cond}
 use Rattle.x64_syntax.specs.declared.conditions.Cond.TheVariants as condition
-use Rattle.x64_syntax.specs.Places.{reg_name, xmm_name, reg_of, xmm_of}
+use Rattle.x64_syntax.specs.Places.{reg_name, xmm_name, reg_of}
 use Rattle.asm_lines.specs.Lines.{cond_name, cond_of}
 use Rattle.gas_text.proofs.Cuts.{is_plain}
-
-pub reg_back : (r : GeneralReg) → reg_of (reg_name r) ≡ Some r
-reg_back Rax = refl
-reg_back Rbx = refl
-reg_back Rcx = refl
-reg_back Rdx = refl
-reg_back Rsi = refl
-reg_back Rdi = refl
-reg_back Rbp = refl
-reg_back Rsp = refl
-reg_back R8 = refl
-reg_back R9 = refl
-reg_back R10 = refl
-reg_back R11 = refl
-reg_back R12 = refl
-reg_back R13 = refl
-reg_back R14 = refl
-reg_back R15 = refl
 
 pub reg_plain : (r : GeneralReg) → list_all is_plain (reg_name r) ≡ true
 reg_plain Rax = refl
@@ -46,24 +28,6 @@ reg_plain R12 = refl
 reg_plain R13 = refl
 reg_plain R14 = refl
 reg_plain R15 = refl
-
-pub xmm_back : (x : XmmReg) → xmm_of (xmm_name x) ≡ Some x
-xmm_back Xmm0 = refl
-xmm_back Xmm1 = refl
-xmm_back Xmm2 = refl
-xmm_back Xmm3 = refl
-xmm_back Xmm4 = refl
-xmm_back Xmm5 = refl
-xmm_back Xmm6 = refl
-xmm_back Xmm7 = refl
-xmm_back Xmm8 = refl
-xmm_back Xmm9 = refl
-xmm_back Xmm10 = refl
-xmm_back Xmm11 = refl
-xmm_back Xmm12 = refl
-xmm_back Xmm13 = refl
-xmm_back Xmm14 = refl
-xmm_back Xmm15 = refl
 
 pub xmm_no_reg : (x : XmmReg) → reg_of (xmm_name x) ≡ None
 xmm_no_reg Xmm0 = refl

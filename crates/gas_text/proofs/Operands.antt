@@ -16,10 +16,12 @@ use Rattle.asm_lines.specs.declared.forms.Parts.{Parts}
 use Rattle.asm_lines.specs.declared.forms.Parts.TheVariants.{One, Two, Three}
 use Rattle.asm_lines.specs.Operands.{at_most}
 use Rattle.gas_text.specs.Gas.{index_text, memory_text, part_text, operands_text}
-use Rattle.gas_text.specs.Apart.{cut, digits_from, number, displacement, scaled, addressed, memory, part_of, parts_of}
+use Rattle.x64_syntax.specs.inner.Digits.{number_of}
+use Rattle.gas_text.specs.Apart.{cut, number, displacement, scaled, addressed, memory, part_of, parts_of}
 use Rattle.gas_text.proofs.Cuts.{is_plain, lacks, lacks_append, lacks_plain, cut_at, cut_none, differ, Ended, before_end}
-use Rattle.gas_text.proofs.Names.{reg_back, reg_plain, xmm_back, xmm_no_reg, xmm_plain}
-use Rattle.gas_text.proofs.Numbers.{are_digits, read_decimal}
+use Rattle.x64_syntax.proofs.Digits.{are_digits, read_back}
+use Rattle.x64_syntax.proofs.ReadBack.{reg_back, xmm_back}
+use Rattle.gas_text.proofs.Names.{reg_plain, xmm_no_reg, xmm_plain}
 
 digits_plain : (ds : List ℕ) → list_all is_digit_byte ds ≡ true → list_all is_plain ds ≡ true
 digits_plain [] h = refl
@@ -54,9 +56,9 @@ readable_pos n h = by_text (decimal n) refl where
       record {
         back =
             ap number e
-            ∙ ap (λ (t : Bool). if t then option_map (λ n. neg_ℤ (pos n)) (digits_from 0 ds) else option_map pos (digits_from 0 (d ∷ ds))) no_sign
-            ∙ ap (λ t. option_map pos (digits_from 0 t)) (sym e)
-            ∙ ap (λ o. option_map pos o) (read_decimal n h);
+            ∙ ap (λ (t : Bool). if t then option_map (λ n. neg_ℤ (pos n)) (number_of ds) else option_map pos (number_of (d ∷ ds))) no_sign
+            ∙ ap (λ t. option_map pos (number_of t)) (sym e)
+            ∙ ap (λ o. option_map pos o) (read_back n h);
         first = d;
         others = ds;
         text = e;
@@ -71,7 +73,7 @@ readable_pos n h = by_text (decimal n) refl where
 
 pub readable_neg : (n : ℕ) → suc n < 2 ^ 64 → Readable (negsuc n)
 readable_neg n h = record {
-  back = ap (λ o. option_map (λ n. neg_ℤ (pos n)) o) (read_decimal (suc n) h);
+  back = ap (λ o. option_map (λ n. neg_ℤ (pos n)) o) (read_back (suc n) h);
   first = 45;
   others = decimal (suc n);
   text = refl;

@@ -7,7 +7,7 @@ use Rattle.std.proofs.lemmas.Bool.{and_parts, and_from, eq-eqb, false≢true, no
 use Rattle.x64_syntax.specs.declared.items.Item.{Item}
 use Rattle.x64_syntax.specs.declared.items.Item.TheVariants as item
 use Rattle.x64_syntax.specs.Programs.{begins_with_entry, entries_differ, has_entry, is_item, labels_from, is_ordered}
-use Rattle.x64_syntax.specs.LabelCount.{label_count}
+use Rattle.x64_syntax.specs.inner.LabelCount.{label_count}
 use Rattle.gas_text.proofs.Counts.{is_code, Next, is_code_next, bytes_from, bytes_same}
 
 -- names are told apart whichever comes first

@@ -1,5 +1,5 @@
 -- How a line is taken apart. Only what a line can be is found: whether it is that line is told by the printed line.
-use Rattle.std.specs.Prelude.{ℕ, ◌+◌, ◌*◌, ◌-◌, ◌^◌, ℤ, pos, neg_ℤ, nat_lt, int_le, ◌&&◌, ◌==◌, List, [], ◌∷◌, codes, Option, Some, None, option_map, option_and_then, if◌then◌else◌}
+use Rattle.std.specs.Prelude.{ℕ, ◌-◌, ◌^◌, ℤ, pos, neg_ℤ, int_le, ◌&&◌, ◌==◌, List, [], ◌∷◌, codes, Option, Some, None, option_map, option_and_then, if◌then◌else◌}
 use Rattle.std.specs.Str.{bytes_eq}
 use Rattle.x64_syntax.specs.declared.places.Reg.{Reg}
 use Rattle.x64_syntax.specs.declared.operands.Mem.{Mem}
@@ -9,7 +9,8 @@ use Rattle.x64_syntax.specs.declared.items.Item.TheVariants as item
 use Rattle.x64_syntax.specs.declared.operations.Operation.{Operation}
 use Rattle.x64_syntax.specs.declared.operations.Operation.TheVariants as op
 use Rattle.x64_syntax.specs.Places.{reg_of, xmm_of}
-use Rattle.x64_syntax.specs.Words.{is_digit_byte, gas_operation_of}
+use Rattle.x64_syntax.specs.inner.Digits.{number_of}
+use Rattle.x64_syntax.specs.inner.Mnemonics.{gas_operation_of}
 use Rattle.asm_lines.specs.declared.forms.Part.{Part}
 use Rattle.asm_lines.specs.declared.forms.Part.TheVariants.{General, Wide, Number, Memory}
 use Rattle.asm_lines.specs.declared.forms.Parts.{Parts}
@@ -30,15 +31,9 @@ front_of (Some p) text = p.0
 abbrev pub before_comma : List ℕ → List ℕ
 before_comma text = front_of (cut 44 text) text
 
--- the number whose decimal digits follow those of n, where it has 64 bits
-abbrev pub digits_from : ℕ → List ℕ → Option ℕ
-digits_from n [] = Some n
-digits_from n (b ∷ bs) =
-    if is_digit_byte b && nat_lt (n * 10 + (b - 48)) (2 ^ 64) then digits_from (n * 10 + (b - 48)) bs else None
-
 abbrev pub number : List ℕ → Option ℤ
-number [] = Some (pos 0)
-number (b ∷ bs) = if b == 45 then option_map (λ n. neg_ℤ (pos n)) (digits_from 0 bs) else option_map pos (digits_from 0 (b ∷ bs))
+number [] = None
+number (b ∷ bs) = if b == 45 then option_map (λ n. neg_ℤ (pos n)) (number_of bs) else option_map pos (number_of (b ∷ bs))
 
 -- `%rax`
 abbrev pub register : List ℕ → Option Reg
@@ -104,7 +99,7 @@ ins_of mnemonic text = option_and_then (λ ps. option_and_then (λ o. instructio
 -- `L12`
 abbrev pub label_of : List ℕ → Option ℕ
 label_of [] = None
-label_of (b ∷ bs) = if b == 76 then option_and_then (λ n. at_most (2 ^ 32 - 1) (pos n)) (digits_from 0 bs) else None
+label_of (b ∷ bs) = if b == 76 then option_and_then (λ n. at_most (2 ^ 32 - 1) (pos n)) (number_of bs) else None
 
 -- a conditional jump, or an instruction
 abbrev pub called_so : List ℕ → List ℕ → Option Item

@@ -1,6 +1,6 @@
 -- What a reader holds.
 use Rattle.std.specs.Prelude.{◌≡◌, ◌≤◌, map, option_map, length}
-use Rattle.x64_syntax.specs.LabelCount.{label_count}
+use Rattle.x64_syntax.specs.inner.LabelCount.{label_count}
 use Rattle.gas_text.specs.declared.reader.Reader.{Reader}
 use Rattle.gas_text.specs.Reading.{Sofar, names_of}
 

@@ -3,11 +3,11 @@
 ghost use Rattle.std.specs.Prelude.{◌≡◌, pos, option_map};
 ghost use Rattle.x64_syntax.specs.Places.{reg_of};
 ghost use Rattle.asm_lines.specs.Operands.{at_most};
-ghost use Rattle.gas_text.specs.Apart.{cut, before_comma, digits_from, number, register, displacement, scaled, addressed, memory, named_part, part_of, more_parts, parts_behind, parts_of, narrowed, called, ins_of, label_of, called_so, item_of, found_item};
+ghost use Rattle.gas_text.specs.Apart.{cut, before_comma, number, register, displacement, scaled, addressed, memory, named_part, part_of, more_parts, parts_behind, parts_of, narrowed, called, ins_of, label_of, called_so, item_of, found_item};
 
 use asm_lines::{Part, Parts, cond_named, instruction};
 use memchr::memchr;
-use x64_syntax::{Ins, Item, Mem, Operation, Reg, gas_named, is_digit, reg_named, xmm_named};
+use x64_syntax::{Ins, Item, Mem, Operation, Reg, gas_named, read_number, reg_named, xmm_named};
 
 /// What is before the first such byte, and what is behind it.
 pub(crate) fn cut(text: &[u8], at: u8) -> Option<(&[u8], &[u8])>
@@ -27,25 +27,13 @@ fn before_comma(text: &[u8]) -> &[u8]
     }
 }
 
-fn digits(text: &[u8]) -> Option<u64>
-    ensures { result ≡ digits_from 0 text.now }
-{
-    let mut value = 0u64;
-    for byte in text {
-        if !is_digit(*byte) {
-            return None;
-        }
-        value = value.checked_mul(10)?.checked_add(u64::from(*byte - b'0'))?;
-    }
-    Some(value)
-}
-
 fn number(text: &[u8]) -> Option<i128>
     ensures { result ≡ number text.now }
 {
     match text {
-        [b'-', magnitude @ ..] => Some(-i128::from(digits(magnitude)?)),
-        _ => Some(i128::from(digits(text)?)),
+        [] => None,
+        [b'-', magnitude @ ..] => Some(-i128::from(read_number(magnitude)?)),
+        _ => Some(i128::from(read_number(text)?)),
     }
 }
 
@@ -170,7 +158,7 @@ fn label(text: &[u8]) -> Option<u32>
     ensures { result ≡ label_of text.now }
 {
     match text {
-        [b'L', rest @ ..] => u32::try_from(digits(rest)?).ok(),
+        [b'L', rest @ ..] => u32::try_from(read_number(rest)?).ok(),
         _ => None,
     }
 }

@@ -18,7 +18,8 @@ use Rattle.x64_syntax.specs.declared.items.Item.TheVariants as item
 use Rattle.x64_syntax.specs.Instructions.{form_of, accesses}
 use Rattle.x64_syntax.specs.declared.code.Node.{Node-F, fold-roll-Node}
 use Rattle.x64_syntax.specs.declared.code.Node.TheVariants as node
-use Rattle.x64_syntax.specs.Code.{Prog, Step, prog, node_tree, node_layer, has_block, are_forms, nodes, slots_after, none_left, slots}
+use Rattle.x64_syntax.specs.Code.{Prog, Step, has_block, are_forms, nodes, slots_after, none_left, slots}
+use Rattle.x64_syntax.specs.inner.Nodes.{prog, node_tree, node_layer}
 use Rattle.x64_syntax.specs.Programs.{program_ok}
 use Rattle.x64_syntax.specs.Places.{reg_eq}
 use Rattle.x64_syntax.proofs.PlaceLemmas.{reg_eq_is}

@@ -2,7 +2,7 @@
 
 ghost use Rattle.std.specs.Prelude.{◌≡◌, ◌≤◌, IfOk};
 ghost use Rattle.straight_line.specs.Form.{statement_limit};
-ghost use Rattle.x64_syntax.specs.Code.{prog};
+ghost use Rattle.x64_syntax.specs.inner.Nodes.{prog};
 ghost use Rattle.vale_driver.specs.Build.{straight_code, lowered_code};
 
 use code_lower::lower;

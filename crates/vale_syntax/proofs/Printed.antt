@@ -3,7 +3,8 @@ use Rattle.std.proofs.Common.{◌≡◌, ℕ, zero, suc, ◌+◌, ◌-◌, ◌^�
 use Rattle.std.specs.Prelude.{pos, negsuc, nat_le, codes}
 use Rattle.std.proofs.lemmas.Bool.{leb-true, leb-false, lt-ltb, false≢true}
 use Rattle.std.proofs.lemmas.List.{append-nil}
-use Rattle.x64_syntax.specs.Words.{is_name_text, keywords}
+use Rattle.x64_syntax.specs.Words.{is_name_text}
+use Rattle.x64_syntax.specs.Tables.{keywords}
 use Rattle.vale_syntax.specs.declared.token.Token.{Token}
 use Rattle.vale_syntax.specs.declared.token.TokenKind.{TokenKind}
 use Rattle.vale_syntax.specs.declared.token.TokenKind.TheVariants as kind

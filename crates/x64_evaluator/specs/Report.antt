@@ -3,11 +3,8 @@ use Rattle.std.specs.Prelude.{ℕ, Bool, true, false, List, [], ◌∷◌, ◌++
 use Rattle.x64_syntax.specs.declared.places.Reg.{Reg as GeneralReg}
 use Rattle.x64_syntax.specs.declared.places.Xmm.{Xmm as XmmReg}
 use Rattle.x64_syntax.specs.declared.places.FlagName.{FlagName}
-use Rattle.x64_syntax.specs.declared.places.TheConstants.Reg.{ALL as ALL_REGS}
-use Rattle.x64_syntax.specs.declared.places.TheConstants.Xmm.{ALL as ALL_XMMS}
-use Rattle.x64_syntax.specs.declared.places.TheConstants.FlagName.{ALL as ALL_FLAGS}
 use Rattle.x64_syntax.specs.declared.places.Place.TheVariants.{Reg, Xmm}
-use Rattle.x64_syntax.specs.Places.{flag_name, xmm_number}
+use Rattle.x64_syntax.specs.Places.{flag_name, xmm_number, all_regs, all_xmms, all_flags}
 use Rattle.x64_meaning.specs.declared.machine.Flag.{Flag}
 use Rattle.x64_meaning.specs.declared.machine.Flag.TheVariants.{Zero, One, Undefined}
 use Rattle.x64_meaning.specs.declared.machine.Obs.{Obs}
@@ -58,8 +55,8 @@ text_of (l ∷ ls) = l ++ (codes "\n" ++ text_of ls)
 
 abbrev pub state_text : State → List ℕ
 state_text s =
-    text_of (map (reg_line s) ALL_REGS)
-    ++ (text_of (map (xmm_line s) ALL_XMMS) ++ (text_of (map (flag_line s) ALL_FLAGS) ++ text_of (map block_text s.blocks)))
+    text_of (map (reg_line s) all_regs)
+    ++ (text_of (map (xmm_line s) all_xmms) ++ (text_of (map (flag_line s) all_flags) ++ text_of (map block_text s.blocks)))
 
 abbrev pub report_text : Halt → List ℕ
 report_text h = end_text h.end h.way.steps ++ (codes "\n" ++ (state_text h.way.state ++ text_of (map seen_text h.way.seen)))

@@ -1,6 +1,6 @@
 -- The labels of a piece are a range where labels stand in order.
 use Rattle.std.proofs.Common.{◌≡◌, ℕ, ◌+◌, ◌<◌, ◌≤◌, Bool, true, false, List, [], ◌∷◌, refl, sym, ap, ◌∙◌, subst, arith, leb, length, suc, drop, get_or, ◌⊎◌, inl, inr}
-use Rattle.std.specs.Prelude.{◌&&◌, ◌||◌, ◌==◌, Some, if◌then◌else◌}
+use Rattle.std.specs.Prelude.{◌||◌, ◌==◌, Some, if◌then◌else◌}
 use Rattle.std.proofs.lemmas.Bool.{and_parts, and_from, eqb-true, eqb-false, leb-true, leb-false}
 use Rattle.std.proofs.Math.Seq.{drop-cons}
 use Rattle.x64_syntax.specs.declared.instructions.Ins.{Ins}
@@ -8,7 +8,7 @@ use Rattle.x64_syntax.specs.declared.conditions.Cond.{Cond}
 use Rattle.x64_syntax.specs.declared.items.Item.{Item}
 use Rattle.x64_syntax.specs.declared.items.Item.TheVariants as item
 use Rattle.x64_syntax.specs.Programs.{labels_from, piece, has_label, stray_from, stray_jump}
-use Rattle.x64_syntax.specs.LabelCount.{label_count}
+use Rattle.x64_syntax.specs.inner.LabelCount.{label_count}
 
 -- the items from the next entry on
 abbrev pub behind : List Item → List Item

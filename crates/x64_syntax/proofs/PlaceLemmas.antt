@@ -10,12 +10,9 @@ use Rattle.x64_syntax.specs.declared.places.FlagName.{FlagName}
 use Rattle.x64_syntax.specs.declared.places.FlagName.TheVariants.{Cf, Zf, Sf, Of}
 use Rattle.x64_syntax.specs.declared.places.Place.{Place}
 use Rattle.x64_syntax.specs.declared.places.Place.TheVariants.{Reg, Xmm, Flag}
-use Rattle.x64_syntax.specs.declared.places.TheConstants.Reg.{ALL as ALL_REGS}
-use Rattle.x64_syntax.specs.declared.places.TheConstants.Xmm.{ALL as ALL_XMMS}
-use Rattle.x64_syntax.specs.declared.places.TheConstants.FlagName.{ALL as ALL_FLAGS}
-use Rattle.x64_syntax.specs.Places.{reg_number, xmm_number, flag_number, reg_eq, xmm_eq, flag_eq, place_eq}
+use Rattle.x64_syntax.specs.Places.{reg_number, xmm_number, flag_number, reg_eq, xmm_eq, flag_eq, place_eq, all_regs, all_xmms, all_flags}
 
-reg_back : (p : GeneralReg) → slice_index_or ALL_REGS (reg_number p) Rax ≡ p
+reg_back : (p : GeneralReg) → slice_index_or all_regs (reg_number p) Rax ≡ p
 reg_back Rax = refl
 reg_back Rbx = refl
 reg_back Rcx = refl
@@ -52,12 +49,12 @@ reg_number_lt R14 = lit< tt
 reg_number_lt R15 = lit< tt
 
 pub reg_eq_is : (a b : GeneralReg) → reg_eq a b ≡ true → a ≡ b
-reg_eq_is a b h = sym (reg_back a) ∙ ap (λ n. slice_index_or ALL_REGS n Rax) (eqb-true _ _ h) ∙ reg_back b
+reg_eq_is a b h = sym (reg_back a) ∙ ap (λ n. slice_index_or all_regs n Rax) (eqb-true _ _ h) ∙ reg_back b
 
 pub reg_eq_same : (a : GeneralReg) → reg_eq a a ≡ true
 reg_eq_same a = eq-eqb (reg_number a) (reg_number a) refl
 
-xmm_back : (p : XmmReg) → slice_index_or ALL_XMMS (xmm_number p) Xmm0 ≡ p
+xmm_back : (p : XmmReg) → slice_index_or all_xmms (xmm_number p) Xmm0 ≡ p
 xmm_back Xmm0 = refl
 xmm_back Xmm1 = refl
 xmm_back Xmm2 = refl
@@ -94,12 +91,12 @@ xmm_number_lt Xmm14 = lit< tt
 xmm_number_lt Xmm15 = lit< tt
 
 pub xmm_eq_is : (a b : XmmReg) → xmm_eq a b ≡ true → a ≡ b
-xmm_eq_is a b h = sym (xmm_back a) ∙ ap (λ n. slice_index_or ALL_XMMS n Xmm0) (eqb-true _ _ h) ∙ xmm_back b
+xmm_eq_is a b h = sym (xmm_back a) ∙ ap (λ n. slice_index_or all_xmms n Xmm0) (eqb-true _ _ h) ∙ xmm_back b
 
 pub xmm_eq_same : (a : XmmReg) → xmm_eq a a ≡ true
 xmm_eq_same a = eq-eqb (xmm_number a) (xmm_number a) refl
 
-flag_back : (p : FlagName) → slice_index_or ALL_FLAGS (flag_number p) Cf ≡ p
+flag_back : (p : FlagName) → slice_index_or all_flags (flag_number p) Cf ≡ p
 flag_back Cf = refl
 flag_back Zf = refl
 flag_back Sf = refl
@@ -112,7 +109,7 @@ flag_number_lt Sf = lit< tt
 flag_number_lt Of = lit< tt
 
 pub flag_eq_is : (a b : FlagName) → flag_eq a b ≡ true → a ≡ b
-flag_eq_is a b h = sym (flag_back a) ∙ ap (λ n. slice_index_or ALL_FLAGS n Cf) (eqb-true _ _ h) ∙ flag_back b
+flag_eq_is a b h = sym (flag_back a) ∙ ap (λ n. slice_index_or all_flags n Cf) (eqb-true _ _ h) ∙ flag_back b
 
 pub flag_eq_same : (a : FlagName) → flag_eq a a ≡ true
 flag_eq_same a = eq-eqb (flag_number a) (flag_number a) refl

@@ -1,5 +1,5 @@
 -- Structured code, without where it lies in memory, and which code is the machine's.
-use Rattle.std.specs.Prelude.{ℕ, zero, suc, ◌+◌, ◌-◌, ◌^◌, Bool, true, false, ◌&&◌, ◌==◌, nat_lt, nat_le, is_ok, is_none, List, [], ◌∷◌, map, Option, Some, None, option_and_then, if◌then◌else◌}
+use Rattle.std.specs.Prelude.{ℕ, zero, suc, ◌+◌, Bool, true, false, ◌&&◌, ◌==◌, is_ok, is_none, Option, Some, None, option_and_then, if◌then◌else◌}
 use Rattle.x64_syntax.specs.declared.places.Reg.{Reg as GeneralReg}
 use Rattle.x64_syntax.specs.declared.operands.Mem.{Mem}
 use Rattle.x64_syntax.specs.declared.operands.Opr.{Opr}
@@ -7,9 +7,7 @@ use Rattle.x64_syntax.specs.declared.conditions.Cmp.{Cmp}
 use Rattle.x64_syntax.specs.declared.instructions.AluOp.TheVariants as alu
 use Rattle.x64_syntax.specs.declared.instructions.Ins.{Ins}
 use Rattle.x64_syntax.specs.declared.instructions.Ins.TheVariants.{Alu, Push, Pop}
-use Rattle.x64_syntax.specs.declared.code.Node.{Node}
-use Rattle.x64_syntax.specs.declared.code.Node.TheOpen.{Node-F}
-use Rattle.x64_syntax.specs.declared.code.Node.TheFolds.{fold-Node}
+use Rattle.x64_syntax.specs.Ranges.{is_u32}
 use Rattle.x64_syntax.specs.Instructions.{accesses, form_of}
 
 -- code, each node with the rest of its list
@@ -19,26 +17,10 @@ pub data Prog : Type 0 where
   If : Cmp → GeneralReg → Opr → Prog → Prog → Prog → Prog
   Loop : Cmp → GeneralReg → Opr → Prog → Prog → Prog
 
-abbrev pub join : List (Prog → Prog) → Prog
-join [] = Done
-join (f ∷ fs) = f (join fs)
-
-abbrev pub node_layer : Node-F (Prog → Prog) → Prog → Prog
-node_layer (Node-F.Ins i b) rest = Step i b rest
-node_layer (Node-F.If c l r first second) rest = If c l r (join first) (join second) rest
-node_layer (Node-F.Loop c l r body) rest = Loop c l r (join body) rest
-
--- a node in front of code
-abbrev pub node_tree : Node → Prog → Prog
-node_tree = fold-Node (Prog → Prog) node_layer
-
-abbrev pub prog : List Node → Prog
-prog ns = join (map node_tree ns)
-
 -- a block, of a number of 32 bits, where there is an access
 abbrev pub has_block : Option ℕ → Option Mem → Bool
 has_block None None = true
-has_block (Some k) (Some m) = nat_lt k (2 ^ 32)
+has_block (Some k) (Some m) = is_u32 k
 has_block _ _ = false
 
 -- an instruction of the machine, with a block exactly where it loads from or stores to a memory operand
@@ -69,10 +51,10 @@ slots_after (Pop d) zero = None
 slots_after (Pop d) (suc k) = Some k
 slots_after i k = Some k
 
--- what both arms leave
-abbrev pub agreed : Option ℕ → Option ℕ → Option ℕ
-agreed (Some a) (Some b) = if a == b then Some a else None
-agreed _ _ = None
+-- how many slots both arms leave
+abbrev pub common_slots : Option ℕ → Option ℕ → Option ℕ
+common_slots (Some a) (Some b) = if a == b then Some a else None
+common_slots _ _ = None
 
 abbrev pub none_left : Option ℕ → Bool
 none_left (Some zero) = true
@@ -83,13 +65,9 @@ none_left _ = false
 abbrev pub slots : Prog → ℕ → Option ℕ
 slots Done k = Some k
 slots (Step i b p) k = option_and_then (slots p) (slots_after i k)
-slots (If c l r first second p) k = option_and_then (λ m. slots p (k + m)) (agreed (slots first 0) (slots second 0))
+slots (If c l r first second p) k = option_and_then (λ m. slots p (k + m)) (common_slots (slots first 0) (slots second 0))
 slots (Loop c l r body p) k = if none_left (slots body 0) then slots p k else None
 
 -- The instructions and tests are the machine's, there are fewer than 2^32 nodes, and all that is pushed is popped.
 abbrev pub code_ok : Prog → Bool
-code_ok p = are_forms p && (nat_lt (nodes p) (2 ^ 32) && none_left (slots p 0))
-
--- the room that code leaves of so much, a node taking one
-abbrev pub room_left : Prog → ℕ → Option ℕ
-room_left p room = if nat_le (nodes p) room then Some (room - nodes p) else None
+code_ok p = are_forms p && (is_u32 (nodes p) && none_left (slots p 0))

@@ -1,11 +1,11 @@
 -- The instructions: what each takes, what it reads and what it writes, by volume 2 of Intel's manual. A further
 -- instruction is a further row of each table.
-use Rattle.std.specs.Prelude.{ℕ, ◌-◌, ◌^◌, ℤ, pos, negsuc, Bool, true, false, not, ◌&&◌, ◌||◌, ◌==◌, int_le, nat_le, List, [], ◌∷◌, ◌++◌, map, Option, Some, None, Result, Ok, Err, if◌then◌else◌}
+use Rattle.std.specs.Prelude.{ℕ, ℤ, Bool, true, false, not, ◌&&◌, ◌||◌, ◌==◌, nat_le, List, [], ◌∷◌, ◌++◌, map, Option, Some, None, Result, Ok, Err, if◌then◌else◌}
 use Rattle.std.specs.List.{list_any}
 use Rattle.x64_syntax.specs.declared.places.Reg.{Reg as GeneralReg}
 use Rattle.x64_syntax.specs.declared.places.Reg.TheVariants.{Rax, Rdx, Rsp}
 use Rattle.x64_syntax.specs.declared.places.FlagName.{FlagName}
-use Rattle.x64_syntax.specs.declared.places.FlagName.TheVariants.{Cf, Zf, Sf, Of}
+use Rattle.x64_syntax.specs.declared.places.FlagName.TheVariants.{Cf, Zf, Of}
 use Rattle.x64_syntax.specs.declared.places.Place.{Place}
 use Rattle.x64_syntax.specs.declared.places.Place.TheVariants.{Reg, Xmm, Flag}
 use Rattle.x64_syntax.specs.declared.operands.Mem.{Mem}
@@ -25,12 +25,13 @@ use Rattle.x64_syntax.specs.declared.instructions.Ins.{Ins}
 use Rattle.x64_syntax.specs.declared.instructions.Ins.TheVariants.{Mov, Store, Lea, Cmov, Push, Pop, Alu, One, Shift, Imul, Mul, Mulx, Carry, XMov, XLoad, XStore, XBin, XShuf, XShift, XIns, XExt, XMovq}
 use Rattle.x64_syntax.specs.declared.forms.FormFault.{FormFault}
 use Rattle.x64_syntax.specs.declared.forms.FormFault.TheVariants.{Immediate, Count, Scale, Register, SameHighLow}
-use Rattle.x64_syntax.specs.Places.{reg_eq, place_eq}
+use Rattle.x64_syntax.specs.Ranges.{is_i32, is_i64, is_u8}
+use Rattle.x64_syntax.specs.Places.{all_flags, reg_eq, place_eq}
 
--- the source is a register, memory, or a constant of the range
-abbrev pub in_range : ℤ → ℤ → Opr → Bool
-in_range low high (Imm z) = int_le low z && int_le z high
-in_range low high _ = true
+-- the source is a register, memory, or a constant that passes a test
+abbrev pub constant_passes : (ℤ → Bool) → Opr → Bool
+constant_passes test (Imm z) = test z
+constant_passes test _ = true
 
 -- the source is a register or memory
 abbrev pub no_constant : Opr → Bool
@@ -39,11 +40,11 @@ no_constant _ = true
 
 -- what instructions with flags take as constants, and tests too
 abbrev pub is_short : Opr → Bool
-is_short s = in_range (negsuc (2 ^ 31 - 1)) (pos (2 ^ 31 - 1)) s
+is_short s = constant_passes is_i32 s
 
 -- the constant is one that the form takes
 abbrev pub constant_fits : Ins → Bool
-constant_fits (Mov d s) = in_range (negsuc (2 ^ 63 - 1)) (pos (2 ^ 63 - 1)) s
+constant_fits (Mov d s) = constant_passes is_i64 s
 constant_fits (Alu op d s) = is_short s
 constant_fits (Imul d s) = no_constant s
 constant_fits (Mul s) = no_constant s
@@ -56,8 +57,8 @@ abbrev pub count_fits : Ins → Bool
 count_fits (Shift op d n) = nat_le 1 n && nat_le n 63
 count_fits (XIns d s n) = nat_le n 1
 count_fits (XExt d s n) = nat_le n 1
-count_fits (XShuf d s n) = nat_le n 255
-count_fits (XShift op d n) = nat_le n 255
+count_fits (XShuf d s n) = is_u8 n
+count_fits (XShift op d n) = is_u8 n
 count_fits _ = true
 
 abbrev pub source_memory : Opr → Option Mem
@@ -105,7 +106,7 @@ is_scale (Some i) = ((i.1 == 1) || (i.1 == 2)) || ((i.1 == 4) || (i.1 == 8))
 -- the displacement is a number of 32 bits with sign
 abbrev pub displacement_fits : Option Mem → Bool
 displacement_fits None = true
-displacement_fits (Some m) = int_le (negsuc (2 ^ 31 - 1)) m.disp && int_le m.disp (pos (2 ^ 31 - 1))
+displacement_fits (Some m) = is_i32 m.disp
 
 abbrev pub has_scale : Option Mem → Bool
 has_scale None = true
@@ -165,20 +166,20 @@ read_places (XIns d s n) = Xmm d ∷ Reg s ∷ []
 read_places (XExt d s n) = Xmm s ∷ []
 read_places (XMovq d s) = Reg s ∷ []
 
-abbrev pub all_flags : List Place
-all_flags = Flag Cf ∷ Flag Zf ∷ Flag Sf ∷ Flag Of ∷ []
+abbrev pub flag_places : List Place
+flag_places = map Flag all_flags
 
 abbrev pub alu_writes : AluOp → GeneralReg → List Place
-alu_writes alu.Cmp d = all_flags
-alu_writes _ d = Reg d ∷ all_flags
+alu_writes alu.Cmp d = flag_places
+alu_writes _ d = Reg d ∷ flag_places
 
 abbrev pub one_writes : OneOp → GeneralReg → List Place
-one_writes one.Neg d = Reg d ∷ all_flags
+one_writes one.Neg d = Reg d ∷ flag_places
 one_writes one.Not d = Reg d ∷ []
 
 abbrev pub shift_writes : ShiftOp → GeneralReg → List Place
-shift_writes shift.Shl d = Reg d ∷ all_flags
-shift_writes shift.Shr d = Reg d ∷ all_flags
+shift_writes shift.Shl d = Reg d ∷ flag_places
+shift_writes shift.Shr d = Reg d ∷ flag_places
 shift_writes shift.Rol d = Reg d ∷ Flag Cf ∷ Flag Of ∷ []
 shift_writes shift.Ror d = Reg d ∷ Flag Cf ∷ Flag Of ∷ []
 
@@ -193,8 +194,8 @@ written_places (Pop d) = Reg d ∷ []
 written_places (Alu op d s) = alu_writes op d
 written_places (One op d) = one_writes op d
 written_places (Shift op d n) = shift_writes op d
-written_places (Imul d s) = Reg d ∷ all_flags
-written_places (Mul s) = Reg Rax ∷ Reg Rdx ∷ all_flags
+written_places (Imul d s) = Reg d ∷ flag_places
+written_places (Mul s) = Reg Rax ∷ Reg Rdx ∷ flag_places
 written_places (Mulx high low s) = Reg high ∷ Reg low ∷ []
 written_places (Carry op d s) = Reg d ∷ Flag (carry_flag op) ∷ []
 written_places (XMov d s) = Xmm d ∷ []

@@ -1,9 +1,12 @@
+pub mod Names
 pub mod Places
-pub mod OperatorNumbers
+pub mod Ranges
+pub mod Numbers
+pub mod Operations
+pub mod Tables
 pub mod Words
 pub mod PlaceSets
 pub mod Instructions
 pub mod Programs
-pub mod LabelCount
 pub mod Code
-pub mod Numbers
+pub mod inner

@@ -1,7 +1,5 @@
 -- The names and numbers of registers, xmm registers and flags.
-use Rattle.std.specs.Prelude.{ℕ, List, Bool, false, ◌==◌, codes, Option}
-use Rattle.std.specs.List.{find}
-use Rattle.std.specs.Str.{bytes_eq}
+use Rattle.std.specs.Prelude.{ℕ, List, [], ◌∷◌, Bool, false, ◌==◌, codes, Option}
 use Rattle.x64_syntax.specs.declared.places.Reg.{Reg as GeneralReg}
 use Rattle.x64_syntax.specs.declared.places.Reg.TheVariants.{Rax, Rbx, Rcx, Rdx, Rsi, Rdi, Rbp, Rsp, R8, R9, R10, R11, R12, R13, R14, R15}
 use Rattle.x64_syntax.specs.declared.places.Xmm.{Xmm as XmmReg}
@@ -10,9 +8,7 @@ use Rattle.x64_syntax.specs.declared.places.FlagName.{FlagName}
 use Rattle.x64_syntax.specs.declared.places.FlagName.TheVariants.{Cf, Zf, Sf, Of}
 use Rattle.x64_syntax.specs.declared.places.Place.{Place}
 use Rattle.x64_syntax.specs.declared.places.Place.TheVariants.{Reg, Xmm, Flag}
-use Rattle.x64_syntax.specs.declared.places.TheConstants.Reg.{ALL as ALL_REGS}
-use Rattle.x64_syntax.specs.declared.places.TheConstants.Xmm.{ALL as ALL_XMMS}
-use Rattle.x64_syntax.specs.declared.places.TheConstants.FlagName.{ALL as ALL_FLAGS}
+use Rattle.x64_syntax.specs.Names.{first_of_name}
 
 abbrev pub reg_name : GeneralReg → List ℕ
 reg_name Rax = codes "rax"
@@ -119,12 +115,23 @@ place_eq (Xmm a) (Xmm b) = xmm_eq a b
 place_eq (Flag a) (Flag b) = flag_eq a b
 place_eq _ _ = false
 
--- what a name names
+-- every register, xmm register and flag, in order
+abbrev pub all_regs : List GeneralReg
+all_regs = Rax ∷ Rbx ∷ Rcx ∷ Rdx ∷ Rsi ∷ Rdi ∷ Rbp ∷ Rsp ∷ R8 ∷ R9 ∷ R10 ∷ R11 ∷ R12 ∷ R13 ∷ R14 ∷ R15 ∷ []
+
+abbrev pub all_xmms : List XmmReg
+all_xmms =
+    Xmm0 ∷ Xmm1 ∷ Xmm2 ∷ Xmm3 ∷ Xmm4 ∷ Xmm5 ∷ Xmm6 ∷ Xmm7 ∷ Xmm8 ∷ Xmm9 ∷ Xmm10 ∷ Xmm11 ∷ Xmm12 ∷ Xmm13 ∷ Xmm14 ∷ Xmm15 ∷ []
+
+abbrev pub all_flags : List FlagName
+all_flags = Cf ∷ Zf ∷ Sf ∷ Of ∷ []
+
+-- the one of a name
 abbrev pub reg_of : List ℕ → Option GeneralReg
-reg_of name = find (λ r. bytes_eq (reg_name r) name) ALL_REGS
+reg_of name = first_of_name reg_name all_regs name
 
 abbrev pub xmm_of : List ℕ → Option XmmReg
-xmm_of name = find (λ x. bytes_eq (xmm_name x) name) ALL_XMMS
+xmm_of name = first_of_name xmm_name all_xmms name
 
 abbrev pub flag_of : List ℕ → Option FlagName
-flag_of name = find (λ f. bytes_eq (flag_name f) name) ALL_FLAGS
+flag_of name = first_of_name flag_name all_flags name

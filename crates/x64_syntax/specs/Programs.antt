@@ -1,9 +1,10 @@
 -- Programs: flat code in pieces, each under the name of an export.
-use Rattle.std.specs.Prelude.{ℕ, ◌+◌, ◌^◌, nat_lt, Bool, true, false, not, ◌&&◌, ◌||◌, ◌==◌, is_ok, List, [], ◌∷◌, Option, Some, None, is_none, if◌then◌else◌}
+use Rattle.std.specs.Prelude.{ℕ, ◌+◌, Bool, true, false, not, ◌&&◌, ◌||◌, ◌==◌, is_ok, List, [], ◌∷◌, Option, Some, None, is_none, if◌then◌else◌}
 use Rattle.std.specs.List.{list_all}
 use Rattle.std.specs.Str.{bytes_eq}
 use Rattle.x64_syntax.specs.declared.items.Item.{Item}
 use Rattle.x64_syntax.specs.declared.items.Item.TheVariants as item
+use Rattle.x64_syntax.specs.Ranges.{is_u32}
 use Rattle.x64_syntax.specs.Words.{is_export_text}
 use Rattle.x64_syntax.specs.Instructions.{form_of}
 
@@ -29,9 +30,9 @@ entries_differ (_ ∷ is) = entries_differ is
 abbrev pub is_item : Item → Bool
 is_item (item.Ins i) = is_ok (form_of i)
 is_item (item.Entry name) = is_export_text name
-is_item (item.Label l) = nat_lt l (2 ^ 32)
-is_item (item.Jmp l) = nat_lt l (2 ^ 32)
-is_item (item.Jcc c l) = nat_lt l (2 ^ 32)
+is_item (item.Label l) = is_u32 l
+is_item (item.Jmp l) = is_u32 l
+is_item (item.Jcc c l) = is_u32 l
 is_item item.Ret = true
 
 -- labels in the order of the code are k, k + 1, ..

@@ -3,7 +3,7 @@
 ghost use Rattle.std.specs.Prelude.{◌≡◌};
 ghost use Rattle.x64_syntax.specs.Words.{built_in_of};
 
-use crate::names::named;
+use crate::names::table_value;
 
 /// An operator that is written as a call. Those from `old` on stand in sources alone, and in no term.
 #[derive(Clone, Copy, Debug, PartialEq, Eq)]
@@ -77,9 +77,9 @@ pub const BUILT_IN: [(&str, BuiltIn); 31] = [
 ];
 
 /// The operator that is written so.
-#[tactic(auto, unfolding(crate::specs::Words::built_in))]
+#[tactic(auto, unfolding(crate::specs::Tables::built_in))]
 pub fn built_in_named(name: &[u8]) -> Option<BuiltIn>
     ensures { result ≡ built_in_of name.now }
 {
-    named(&BUILT_IN, name)
+    table_value(&BUILT_IN, name)
 }

@@ -1,14 +1,15 @@
 // Structured code.
 
 ghost use Rattle.std.specs.Prelude.{◌≡◌, ◌<◌, ◌≤◌, ◌+◌, ◌^◌, ◌&&◌, option_and_then, IfSome};
-ghost use Rattle.x64_syntax.specs.Code.{Prog, node_tree, join, prog, Done, has_block, is_step, is_test, are_forms, nodes, room_left, slots_after, slots, agreed, none_left, code_ok};
+ghost use Rattle.x64_syntax.specs.Code.{Prog, Done, has_block, is_step, is_test, are_forms, nodes, slots_after, slots, common_slots, none_left, code_ok};
+ghost use Rattle.x64_syntax.specs.inner.Nodes.{node_tree, sequence, prog, room_left};
 
 use crate::conditions::Cmp;
 use crate::forms::{accesses, ins_ok};
 use crate::instructions::{AluOp, Ins};
 use crate::operands::{Mem, Opr};
 use crate::places::Reg;
-use crate::program::is_number;
+use crate::program::is_u32;
 use sqlite_items::Items;
 
 /// A list of nodes.
@@ -44,7 +45,7 @@ fn has_block(block: Option<u32>, access: Option<Mem>) -> bool
     ensures { result ≡ has_block block access }
 {
     match block {
-        Some(number) => access.is_some() && is_number(number),
+        Some(number) => access.is_some() && is_u32(number),
         None => access.is_none(),
     }
 }

@@ -1,11 +1,12 @@
 // What each instruction takes, reads and writes.
 
-ghost use Rattle.std.specs.Prelude.{◌≡◌, nat_le, true, ◌||◌, ◌++◌, ◌∷◌, [], map};
+ghost use Rattle.std.specs.Prelude.{◌≡◌, true, ◌||◌, ◌++◌, ◌∷◌, [], map};
 ghost use Rattle.x64_syntax.specs.declared.places.Place.{Place as APlace};
 ghost use Rattle.x64_syntax.specs.declared.places.Place.TheVariants as place;
 ghost use Rattle.x64_syntax.specs.Places.{place_eq};
 ghost use Rattle.x64_syntax.specs.PlaceSets.{in_set};
-ghost use Rattle.x64_syntax.specs.Instructions.{in_range, no_constant, is_short, constant_fits, count_fits, displacement_fits, is_scale, has_scale, accesses, addresses, names_rsp, halves_differ, form_of, source_memory, address_places, source_places, cond_flags, alu_reads, read_places, alu_writes, one_writes, shift_writes, written_places, all_flags, is_among};
+ghost use Rattle.x64_syntax.specs.Ranges.{is_i32, is_i64, is_u8};
+ghost use Rattle.x64_syntax.specs.Instructions.{constant_passes, no_constant, is_short, constant_fits, count_fits, displacement_fits, is_scale, has_scale, accesses, addresses, names_rsp, halves_differ, form_of, source_memory, address_places, source_places, cond_flags, alu_reads, read_places, alu_writes, one_writes, shift_writes, written_places, flag_places, is_among};
 
 use crate::conditions::Cond;
 use crate::instructions::{AluOp, Ins, OneOp, ShiftOp};
@@ -28,14 +29,18 @@ pub enum FormFault {
     SameHighLow,
 }
 
-// The source is a register, memory, or a constant from `low` to `high`.
-fn in_range(low: i64, high: i64, s: &Opr) -> bool
-    ensures { result ≡ in_range low high s.now }
+// A number of 32 bits with sign.
+fn is_i32(n: i64) -> bool
+    ensures { result ≡ is_i32 n }
 {
-    match s {
-        Opr::Imm(n) => low <= *n && *n <= high,
-        Opr::R(_) | Opr::M(_) => true,
-    }
+    i64::from(i32::MIN) <= n && n <= i64::from(i32::MAX)
+}
+
+// Any number of a constant's field has 64 bits with sign.
+fn is_i64(_n: i64) -> bool
+    ensures { result ≡ is_i64 _n }
+{
+    true
 }
 
 fn no_constant(s: &Opr) -> bool
@@ -48,14 +53,27 @@ fn no_constant(s: &Opr) -> bool
 pub(crate) fn is_short(s: &Opr) -> bool
     ensures { result ≡ is_short s.now }
 {
-    in_range(-(1 << 31), (1 << 31) - 1, s)
+    match s {
+        Opr::Imm(n) => is_i32(*n),
+        Opr::R(_) | Opr::M(_) => true,
+    }
+}
+
+// Any source of a move is one.
+fn is_long(s: &Opr) -> bool
+    ensures { result ≡ constant_passes is_i64 s.now }
+{
+    match s {
+        Opr::Imm(n) => is_i64(*n),
+        Opr::R(_) | Opr::M(_) => true,
+    }
 }
 
 fn constant_fits(ins: &Ins) -> bool
     ensures { result ≡ constant_fits ins.now }
 {
     match ins {
-        Ins::Mov { s, .. } => in_range(i64::MIN, i64::MAX, s),
+        Ins::Mov { s, .. } => is_long(s),
         Ins::Alu { s, .. } => is_short(s),
         Ins::Imul { s, .. } | Ins::Mul { s } | Ins::Mulx { s, .. } | Ins::Carry { s, .. } => {
             no_constant(s)
@@ -65,8 +83,8 @@ fn constant_fits(ins: &Ins) -> bool
 }
 
 // Any number of a byte's field is one.
-fn is_byte(_n: u8) -> bool
-    ensures { result ≡ nat_le _n 255 }
+fn is_u8(_n: u8) -> bool
+    ensures { result ≡ is_u8 _n }
 {
     true
 }
@@ -77,7 +95,7 @@ fn count_fits(ins: &Ins) -> bool
     match ins {
         Ins::Shift { n, .. } => 1 <= *n && *n <= 63,
         Ins::XIns { n, .. } | Ins::XExt { n, .. } => *n <= 1,
-        Ins::XShuf { n, .. } | Ins::XShift { n, .. } => is_byte(*n),
+        Ins::XShuf { n, .. } | Ins::XShift { n, .. } => is_u8(*n),
         _ => true,
     }
 }
@@ -247,8 +265,8 @@ pub fn reads_of(ins: &Ins) -> PlaceSet
     }
 }
 
-fn all_flags() -> PlaceSet
-    ensures { (p : APlace) → in_set result p ≡ is_among all_flags p }
+fn flag_places() -> PlaceSet
+    ensures { (p : APlace) → in_set result p ≡ is_among flag_places p }
 {
     only(Place::Flag(FlagName::Of))
         .with(Place::Flag(FlagName::Sf))
@@ -260,8 +278,8 @@ fn alu_writes(op: AluOp, d: Reg) -> PlaceSet
     ensures { (p : APlace) → in_set result p ≡ is_among (alu_writes op d) p }
 {
     match op {
-        AluOp::Cmp => all_flags(),
-        _ => all_flags().with(Place::Reg(d)),
+        AluOp::Cmp => flag_places(),
+        _ => flag_places().with(Place::Reg(d)),
     }
 }
 
@@ -269,7 +287,7 @@ fn one_writes(op: OneOp, d: Reg) -> PlaceSet
     ensures { (p : APlace) → in_set result p ≡ is_among (one_writes op d) p }
 {
     match op {
-        OneOp::Neg => all_flags().with(Place::Reg(d)),
+        OneOp::Neg => flag_places().with(Place::Reg(d)),
         OneOp::Not => only(Place::Reg(d)),
     }
 }
@@ -278,7 +296,7 @@ fn shift_writes(op: ShiftOp, d: Reg) -> PlaceSet
     ensures { (p : APlace) → in_set result p ≡ is_among (shift_writes op d) p }
 {
     match op {
-        ShiftOp::Shl | ShiftOp::Shr => all_flags().with(Place::Reg(d)),
+        ShiftOp::Shl | ShiftOp::Shr => flag_places().with(Place::Reg(d)),
         ShiftOp::Rol | ShiftOp::Ror => only(Place::Flag(FlagName::Of))
             .with(Place::Flag(FlagName::Cf))
             .with(Place::Reg(d)),
@@ -299,8 +317,8 @@ pub fn writes_of(ins: &Ins) -> PlaceSet
         Ins::Alu { op, d, .. } => alu_writes(*op, *d),
         Ins::One { op, d } => one_writes(*op, *d),
         Ins::Shift { op, d, .. } => shift_writes(*op, *d),
-        Ins::Imul { d, .. } => all_flags().with(Place::Reg(*d)),
-        Ins::Mul { .. } => all_flags()
+        Ins::Imul { d, .. } => flag_places().with(Place::Reg(*d)),
+        Ins::Mul { .. } => flag_places()
             .with(Place::Reg(Reg::Rdx))
             .with(Place::Reg(Reg::Rax)),
         Ins::Mulx { hi, lo, .. } => only(Place::Reg(*lo)).with(Place::Reg(*hi)),

@@ -3,7 +3,7 @@
 ghost use Rattle.std.specs.Prelude.{◌≡◌};
 ghost use Rattle.x64_syntax.specs.Words.{keyword_of};
 
-use crate::names::named;
+use crate::names::table_value;
 
 /// A word with a meaning in the grammar.
 #[derive(Clone, Copy, Debug, PartialEq, Eq)]
@@ -71,11 +71,11 @@ pub const KEYWORDS: [(&str, Keyword); 28] = [
 ];
 
 /// The keyword that is written so.
-#[tactic(auto, unfolding(crate::specs::Words::keywords))]
+#[tactic(auto, unfolding(crate::specs::Tables::keywords))]
 pub fn keyword_named(name: &[u8]) -> Option<Keyword>
     ensures { result ≡ keyword_of name.now }
 {
-    named(&KEYWORDS, name)
+    table_value(&KEYWORDS, name)
 }
 
 #[cfg(test)]

@@ -1,16 +1,88 @@
-// Tables by their names.
+// Things by their names.
 
-ghost use Rattle.std.specs.Prelude.{◌≡◌, map};
-ghost use Rattle.std.specs.List.{find};
-ghost use Rattle.std.specs.Str.{bytes_eq};
-ghost use Rattle.x64_syntax.specs.Words.{named};
-ghost use Rattle.x64_syntax.specs.Places.{reg_name, xmm_name, flag_name, reg_of, xmm_of, flag_of};
+ghost use Rattle.std.specs.Prelude.{◌≡◌, List, ℕ, map};
+ghost use Rattle.x64_syntax.specs.Names.{first_of_name, table_value};
+ghost use Rattle.x64_syntax.specs.Places.{reg_of, xmm_of, flag_of};
 
 use crate::places::{FlagName, Reg, Xmm};
 
+/// One of finitely many things, each of which has a name.
+pub trait Named: Copy + 'static {
+    /// The name of each.
+    ghost name_of: { Self → List ℕ };
+
+    /// All of them, in order.
+    ghost all: { List Self };
+
+    /// All of them, in order.
+    fn all() -> &'static [Self]
+        ensures { result.now ≡ all };
+
+    fn name(self) -> &'static str
+        ensures { result.now ≡ name_of self };
+}
+
+impl Named for Reg {
+    ghost use Rattle.x64_syntax.specs.Places.{reg_name, all_regs};
+
+    ghost name_of = { reg_name };
+
+    ghost all = { all_regs };
+
+    fn all() -> &'static [Reg] {
+        &Reg::ALL
+    }
+
+    fn name(self) -> &'static str {
+        self.name()
+    }
+}
+
+impl Named for Xmm {
+    ghost use Rattle.x64_syntax.specs.Places.{xmm_name, all_xmms};
+
+    ghost name_of = { xmm_name };
+
+    ghost all = { all_xmms };
+
+    fn all() -> &'static [Xmm] {
+        &Xmm::ALL
+    }
+
+    fn name(self) -> &'static str {
+        self.name()
+    }
+}
+
+impl Named for FlagName {
+    ghost use Rattle.x64_syntax.specs.Places.{flag_name, all_flags};
+
+    ghost name_of = { flag_name };
+
+    ghost all = { all_flags };
+
+    fn all() -> &'static [FlagName] {
+        &FlagName::ALL
+    }
+
+    fn name(self) -> &'static str {
+        self.name()
+    }
+}
+
+/// The first of these things that has the name.
+pub fn from_name<T: Named>(name: &[u8]) -> Option<T>
+    ensures { result ≡ first_of_name T.name_of T.all name.now }
+{
+    T::all()
+        .iter()
+        .copied()
+        .find(|thing| thing.name().as_bytes() == name)
+}
+
 /// What stands beside the name in a table.
-pub(crate) fn named<T: Copy>(rows: &[(&str, T)], name: &[u8]) -> Option<T>
-    ensures { result ≡ named (map (λ r. (r.0.now, r.1)) rows.now) name.now }
+pub(crate) fn table_value<T: Copy>(rows: &[(&str, T)], name: &[u8]) -> Option<T>
+    ensures { result ≡ table_value (map (λ r. (r.0.now, r.1)) rows.now) name.now }
 {
     for (word, value) in rows {
         if word.as_bytes() == name {
@@ -24,54 +96,21 @@ pub(crate) fn named<T: Copy>(rows: &[(&str, T)], name: &[u8]) -> Option<T>
 pub fn reg_named(name: &[u8]) -> Option<Reg>
     ensures { result ≡ reg_of name.now }
 {
-    reg_among(&Reg::ALL, name)
+    from_name(name)
 }
 
 /// The xmm register of a name.
 pub fn xmm_named(name: &[u8]) -> Option<Xmm>
     ensures { result ≡ xmm_of name.now }
 {
-    xmm_among(&Xmm::ALL, name)
+    from_name(name)
 }
 
 /// The flag of a name.
 pub fn flag_named(name: &[u8]) -> Option<FlagName>
     ensures { result ≡ flag_of name.now }
 {
-    flag_among(&FlagName::ALL, name)
-}
-
-fn reg_among(regs: &[Reg], name: &[u8]) -> Option<Reg>
-    ensures { result ≡ find (λ r. bytes_eq (reg_name r) name.now) regs.now }
-{
-    for reg in regs {
-        if reg.name().as_bytes() == name {
-            return Some(*reg);
-        }
-    }
-    None
-}
-
-fn xmm_among(xmms: &[Xmm], name: &[u8]) -> Option<Xmm>
-    ensures { result ≡ find (λ x. bytes_eq (xmm_name x) name.now) xmms.now }
-{
-    for xmm in xmms {
-        if xmm.name().as_bytes() == name {
-            return Some(*xmm);
-        }
-    }
-    None
-}
-
-fn flag_among(flags: &[FlagName], name: &[u8]) -> Option<FlagName>
-    ensures { result ≡ find (λ f. bytes_eq (flag_name f) name.now) flags.now }
-{
-    for flag in flags {
-        if flag.name().as_bytes() == name {
-            return Some(*flag);
-        }
-    }
-    None
+    from_name(name)
 }
 
 #[cfg(test)]

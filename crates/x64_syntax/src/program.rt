@@ -1,9 +1,10 @@
 // Whole programs of flat code.
 
-ghost use Rattle.std.specs.Prelude.{◌≡◌, ◌≤◌, ◌^◌, nat_lt, true, length};
+ghost use Rattle.std.specs.Prelude.{◌≡◌, ◌≤◌, true, length};
 ghost use Rattle.std.specs.List.{list_all};
 ghost use Rattle.x64_syntax.specs.Programs.{begins_with_entry, has_entry, entries_differ, is_item, labels_from, piece, stray_jump, program_ok};
-ghost use Rattle.x64_syntax.specs.LabelCount.{label_count};
+ghost use Rattle.x64_syntax.specs.Ranges.{is_u32};
+ghost use Rattle.x64_syntax.specs.inner.LabelCount.{label_count};
 
 use crate::forms::ins_ok;
 use crate::items::Item;
@@ -45,8 +46,8 @@ fn entries_differ(items: &[Item]) -> bool
 }
 
 /// Any number of a label's or a block's field is one.
-pub(crate) fn is_number(_label: u32) -> bool
-    ensures { result ≡ nat_lt _label (2 ^ 32) }
+pub(crate) fn is_u32(_label: u32) -> bool
+    ensures { result ≡ is_u32 _label }
 {
     true
 }
@@ -58,7 +59,7 @@ pub fn is_item(item: &Item) -> bool
     match item {
         Item::Ins(ins) => ins_ok(ins).is_ok(),
         Item::Entry(name) => is_export_name(name.as_bytes()),
-        Item::Label(label) | Item::Jmp(label) | Item::Jcc(_, label) => is_number(*label),
+        Item::Label(label) | Item::Jmp(label) | Item::Jcc(_, label) => is_u32(*label),
         Item::Ret => true,
     }
 }

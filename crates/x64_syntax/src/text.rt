@@ -1,8 +1,10 @@
 // Texts, as lists of bytes.
 
-ghost use Rattle.std.specs.Prelude.{◌≡◌, ◌++◌, length, IfOk, OnOk};
+ghost use Rattle.std.specs.Prelude.{◌≡◌, ◌<◌, ◌^◌, ◌++◌, ℕ, Some, length, decimal, IfOk, OnOk, IfSome};
 ghost use Rattle.std.specs.Str.{bytes_eq};
+ghost use Rattle.x64_syntax.specs.inner.Digits.{digits_from, number_of};
 
+use crate::words::is_digit;
 use itoa::{Buffer, Integer};
 use std::alloc::{AllocError as NoMemory, Global};
 use std::marker::Model;
@@ -55,6 +57,34 @@ pub fn push_number<I: Integer>(out: &mut Vec<u8>, value: I) -> Result<(), NoMemo
     ensures { OnOk result (out.new.items ≡ out.old.items ++ I.text value) }
 {
     push(out, Buffer::new().format(value))
+}
+
+// The number of these digits, where it has 64 bits.
+fn digits(text: &[u8]) -> Option<u64>
+    ensures { result ≡ digits_from 0 text.now }
+{
+    let mut value = 0u64;
+    for byte in text {
+        if !is_digit(*byte) {
+            return None;
+        }
+        value = value.checked_mul(10)?.checked_add(u64::from(*byte - b'0'))?;
+    }
+    Some(value)
+}
+
+/// The number of 64 bits that is written so in decimal, without a zero too many. The last clause is for proofs.
+pub fn read_number(text: &[u8]) -> Option<u64>
+    ensures written { IfSome result (λ n. decimal n ≡ text.now) }
+    ensures only { (n : ℕ) → n < 2 ^ 64 → decimal n ≡ text.now → result ≡ Some n }
+    ensures same { result ≡ number_of text.now }
+{
+    let number = digits(text)?;
+    if Buffer::new().format(number).as_bytes() == text {
+        Some(number)
+    } else {
+        None
+    }
 }
 
 impl PartialEq for Text {

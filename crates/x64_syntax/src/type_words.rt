@@ -3,7 +3,7 @@
 ghost use Rattle.std.specs.Prelude.{◌≡◌};
 ghost use Rattle.x64_syntax.specs.Words.{type_word_of};
 
-use crate::names::named;
+use crate::names::table_value;
 
 /// A sort of a value: whole numbers, truths, words of 64 and of 128 bits, and arrays of words of 64 bits.
 #[derive(Clone, Copy, Debug, PartialEq, Eq)]
@@ -53,9 +53,9 @@ pub const TYPE_WORDS: [(&str, TypeWord); 10] = [
 ];
 
 /// The sort, kind or convention that is written so.
-#[tactic(auto, unfolding(crate::specs::Words::type_words))]
+#[tactic(auto, unfolding(crate::specs::Tables::type_words))]
 pub fn type_word_named(name: &[u8]) -> Option<TypeWord>
     ensures { result ≡ type_word_of name.now }
 {
-    named(&TYPE_WORDS, name)
+    table_value(&TYPE_WORDS, name)
 }

@@ -2,12 +2,15 @@
 
 ghost use Rattle.std.specs.Prelude.{◌≡◌, ◌||◌};
 ghost use Rattle.std.specs.List.{list_all, list_any};
-ghost use Rattle.x64_syntax.specs.Places.{reg_name, xmm_name, flag_name};
-ghost use Rattle.x64_syntax.specs.Words.{same_text, among, among_rows, is_place_word, is_digit_byte, is_letter_byte, is_name_byte, is_name_text, is_numbered_word, keywords, type_words, built_in, instructions, spellings, other_mnemonics, is_mnemonic_word, assembler_words, is_reserved_word, is_reserved_name, is_refused_export, is_export_text};
+ghost use Rattle.x64_syntax.specs.Names.{same_text, some_has_name};
+ghost use Rattle.x64_syntax.specs.Operations.{operations, operation_name, gas_mnemonic, masm_mnemonic};
+ghost use Rattle.x64_syntax.specs.Tables.{keywords, type_words, built_in, other_mnemonics, assembler_words};
+ghost use Rattle.x64_syntax.specs.Words.{is_word_among, is_in_table, is_place_word, is_digit_byte, is_letter_byte, is_name_byte, is_name_text, is_numbered_word, is_mnemonic_word, is_reserved_word, is_reserved_name, is_refused_export, is_export_text};
 
 use crate::built_in::BUILT_IN;
 use crate::keywords::KEYWORDS;
-use crate::operations::{INSTRUCTIONS, Row};
+use crate::names::Named;
+use crate::operations::Operation;
 use crate::places::{FlagName, Reg, Xmm};
 use crate::type_words::TYPE_WORDS;
 
@@ -85,49 +88,28 @@ fn is_reserved_in(case: Case, name: &[u8]) -> bool
     if is_place(case, name) || is_built_in(case, name) {
         return true;
     }
-    is_instruction(case, name) || is_numbered(case, b"slot", name)
+    some_has_name::<Operation>(case, name) || is_numbered(case, b"slot", name)
 }
 
-#[tactic(auto, unfolding(crate::specs::Words::keywords))]
+#[tactic(auto, unfolding(crate::specs::Tables::keywords))]
 fn is_keyword(case: Case, name: &[u8]) -> bool
-    ensures { result ≡ among_rows case keywords name.now }
+    ensures { result ≡ is_in_table case keywords name.now }
 {
     is_row(&KEYWORDS, case, name)
 }
 
-#[tactic(auto, unfolding(crate::specs::Words::type_words))]
+#[tactic(auto, unfolding(crate::specs::Tables::type_words))]
 fn is_type_word(case: Case, name: &[u8]) -> bool
-    ensures { result ≡ among_rows case type_words name.now }
+    ensures { result ≡ is_in_table case type_words name.now }
 {
     is_row(&TYPE_WORDS, case, name)
 }
 
-#[tactic(auto, unfolding(crate::specs::Words::built_in))]
+#[tactic(auto, unfolding(crate::specs::Tables::built_in))]
 fn is_built_in(case: Case, name: &[u8]) -> bool
-    ensures { result ≡ among_rows case built_in name.now }
+    ensures { result ≡ is_in_table case built_in name.now }
 {
     is_row(&BUILT_IN, case, name)
-}
-
-#[tactic(auto, unfolding(crate::specs::Words::instructions))]
-fn is_instruction(case: Case, name: &[u8]) -> bool
-    ensures { result ≡ among_rows case instructions name.now }
-{
-    is_written(&INSTRUCTIONS, case, name)
-}
-
-fn is_written(rows: &[Row<'_>], case: Case, name: &[u8]) -> bool
-    ensures { result ≡ list_any (λ row. same_text case row.0.now name.now) rows.now }
-{
-    rows.iter().any(|row| is_same(case, row.0.as_bytes(), name))
-}
-
-fn is_spelled(rows: &[Row<'_>], case: Case, name: &[u8]) -> bool
-    ensures { result ≡ list_any (λ row. same_text case row.1.now name.now || same_text case row.2.now name.now) rows.now }
-{
-    rows.iter().any(|row| {
-        is_same(case, row.1.as_bytes(), name) || is_same(case, row.2.as_bytes(), name)
-    })
 }
 
 // Whether a row of a table has the name.
@@ -137,48 +119,45 @@ fn is_row<T>(rows: &[(&str, T)], case: Case, name: &[u8]) -> bool
     rows.iter().any(|row| is_same(case, row.0.as_bytes(), name))
 }
 
+// Whether one of these things has the name.
+fn some_has_name<T: Named>(case: Case, name: &[u8]) -> bool
+    ensures { result ≡ some_has_name case T.name_of T.all name.now }
+{
+    T::all()
+        .iter()
+        .any(|thing| is_same(case, thing.name().as_bytes(), name))
+}
+
 // A register, an xmm register, a flag, or all flags.
 fn is_place(case: Case, name: &[u8]) -> bool
     ensures { result ≡ is_place_word case name.now }
 {
-    if is_reg(&Reg::ALL, case, name) || is_xmm(&Xmm::ALL, case, name) {
+    if some_has_name::<Reg>(case, name) || some_has_name::<Xmm>(case, name) {
         return true;
     }
-    is_flag(&FlagName::ALL, case, name) || is_same(case, b"flags", name)
+    some_has_name::<FlagName>(case, name) || is_same(case, b"flags", name)
 }
 
-fn is_reg(regs: &[Reg], case: Case, name: &[u8]) -> bool
-    ensures { result ≡ list_any (λ r. same_text case (reg_name r) name.now) regs.now }
+// Whether an instruction has the mnemonic in GAS or in MASM syntax.
+fn is_spelled(case: Case, name: &[u8]) -> bool
+    ensures { result ≡ list_any (λ o. same_text case (gas_mnemonic o) name.now || same_text case (masm_mnemonic o) name.now) operations }
 {
-    regs.iter()
-        .any(|reg| is_same(case, reg.name().as_bytes(), name))
+    Operation::all().iter().any(|operation| {
+        is_same(case, operation.gas().as_bytes(), name)
+            || is_same(case, operation.masm().as_bytes(), name)
+    })
 }
 
-fn is_xmm(xmms: &[Xmm], case: Case, name: &[u8]) -> bool
-    ensures { result ≡ list_any (λ x. same_text case (xmm_name x) name.now) xmms.now }
-{
-    xmms.iter()
-        .any(|xmm| is_same(case, xmm.name().as_bytes(), name))
-}
-
-fn is_flag(flags: &[FlagName], case: Case, name: &[u8]) -> bool
-    ensures { result ≡ list_any (λ f. same_text case (flag_name f) name.now) flags.now }
-{
-    flags
-        .iter()
-        .any(|flag| is_same(case, flag.name().as_bytes(), name))
-}
-
-#[tactic(auto, unfolding(crate::specs::Words::spellings, crate::specs::Words::other_mnemonics))]
+#[tactic(auto, unfolding(crate::specs::Tables::other_mnemonics))]
 fn is_mnemonic(case: Case, name: &[u8]) -> bool
     ensures { result ≡ is_mnemonic_word case name.now }
 {
-    is_spelled(&INSTRUCTIONS, case, name) || is_among(&OTHER_MNEMONICS, case, name)
+    is_spelled(case, name) || is_among(&OTHER_MNEMONICS, case, name)
 }
 
-#[tactic(auto, unfolding(crate::specs::Words::assembler_words))]
+#[tactic(auto, unfolding(crate::specs::Tables::assembler_words))]
 fn is_assembler_word(case: Case, name: &[u8]) -> bool
-    ensures { result ≡ among case assembler_words name.now }
+    ensures { result ≡ is_word_among case assembler_words name.now }
 {
     is_among(&ASSEMBLER_WORDS, case, name)
 }

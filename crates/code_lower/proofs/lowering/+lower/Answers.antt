@@ -1,5 +1,6 @@
 use Rattle.std.proofs.Common.{◌∙◌, ap, sym, ◌++◌}
-use Rattle.x64_syntax.specs.Code.{Done, If, Loop, node_tree, prog}
+use Rattle.x64_syntax.specs.Code.{Done, If, Loop}
+use Rattle.x64_syntax.specs.inner.Nodes.{node_tree, prog}
 use Rattle.code_lower.specs.Lowered.{code_items}
 use Rattle.code_lower.proofs.Pushed.{if_items, loop_items, if_tree, loop_tree}
 use Rattle.code_lower.proofs.lowering.+lower.Goals as goal

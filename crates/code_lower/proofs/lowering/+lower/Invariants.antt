@@ -1,5 +1,5 @@
 use Rattle.std.proofs.Common.{◌≡◌, ◌+◌, ◌++◌, drop}
-use Rattle.x64_syntax.specs.Code.{prog}
+use Rattle.x64_syntax.specs.inner.Nodes.{prog}
 use Rattle.code_lower.specs.Lowered.{labels, code_items}
 use Rattle.code_lower.proofs.lowering.+lower.Given as goal
 

@@ -1,7 +1,7 @@
 use Rattle.std.proofs.Common.{◌∙◌, ap, map, None}
 use Rattle.std.proofs.lemmas.List.{take_all}
 use Rattle.x64_syntax.specs.declared.code.Node.TheVariants as node
-use Rattle.x64_syntax.specs.Code.{prog}
+use Rattle.x64_syntax.specs.inner.Nodes.{prog}
 use Rattle.vale_driver.proofs.Built.{nodes_are}
 use Rattle.vale_driver.proofs.code.code_of.Goals as goal
 

@@ -1,5 +1,6 @@
 use Rattle.std.proofs.Common.{◌≡◌, drop}
-use Rattle.x64_syntax.specs.Code.{prog, are_forms}
+use Rattle.x64_syntax.specs.Code.{are_forms}
+use Rattle.x64_syntax.specs.inner.Nodes.{prog}
 use Rattle.x64_syntax.proofs.code.+forms.Given as goal
 
 -- the rest gives what the whole gives

@@ -1,5 +1,5 @@
 use Rattle.std.proofs.Common.{◌≡◌, drop}
-use Rattle.x64_syntax.specs.Code.{prog, room_left}
+use Rattle.x64_syntax.specs.inner.Nodes.{prog, room_left}
 use Rattle.x64_syntax.proofs.code.+room.Given as goal
 
 -- the rest leaves of what is left what the whole leaves of all

@@ -1,5 +1,6 @@
 use Rattle.std.proofs.Common.{◌≡◌, ◌≤◌, ◌+◌, drop}
-use Rattle.x64_syntax.specs.Code.{prog, nodes, slots}
+use Rattle.x64_syntax.specs.Code.{nodes, slots}
+use Rattle.x64_syntax.specs.inner.Nodes.{prog}
 use Rattle.x64_syntax.proofs.code.+slots.Given as goal
 
 -- the rest leaves what the whole leaves, and no more are pushed than there are nodes

@@ -1,6 +1,6 @@
 use Rattle.std.proofs.Common.{◌≡◌, ◌≤◌, ◌+◌, drop}
 use Rattle.x64_syntax.specs.Programs.{piece}
-use Rattle.x64_syntax.specs.LabelCount.{label_count}
+use Rattle.x64_syntax.specs.inner.LabelCount.{label_count}
 use Rattle.x64_syntax.proofs.program.labels_in_piece.Given as goal
 
 abbrev pub invariant-loop-item : goal.invariant-loop-item

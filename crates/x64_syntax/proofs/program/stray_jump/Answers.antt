@@ -1,6 +1,6 @@
 use Rattle.std.proofs.Common.{◌+◌, drop, ap, ◌∙◌, arith, inl, inr}
 use Rattle.x64_syntax.specs.Programs.{piece}
-use Rattle.x64_syntax.specs.LabelCount.{label_count}
+use Rattle.x64_syntax.specs.inner.LabelCount.{label_count}
 use Rattle.x64_syntax.proofs.Pieces.{turn, at_first, at_entry, entry_fits, at_other, at_jump, at_stray}
 use Rattle.x64_syntax.proofs.program.stray_jump.Goals as goal
 use Rattle.x64_syntax.proofs.program.stray_jump.Goals.{in-Entry, in-Ins, in-Ins-2, in-Ins-3, in-Jmp+else-from-low+else-high-from, then-from-low-via-then-from-low, then-from-low-via-else-from-low+then-high-from}

@@ -5,8 +5,9 @@ use Rattle.std.specs.List.{list_all}
 use Rattle.std.proofs.lemmas.Bool.{and_parts, and_from, leb-true, le-leb, lt-ltb}
 use Rattle.std.proofs.lemmas.Str.Parse.{IsDigitsTest, FoldsDigits, IsNumeralModel, numerals_by_fold}
 use Rattle.std.proofs.lemmas.Fmt.{digits_decimal, digits_value-decimal}
+use Rattle.std.proofs.lemmas.Slice.Eq.{bytes_eq-Decides}
 use Rattle.x64_syntax.specs.Words.{is_digit_byte}
-use Rattle.gas_text.specs.Apart.{digits_from}
+use Rattle.x64_syntax.specs.inner.Digits.{digits_from, number_of}
 
 -- the number whose digits follow those of n
 abbrev pub valued : ℕ → List ℕ → ℕ
@@ -49,3 +50,10 @@ pub read_decimal : (n : ℕ) → n < 2 ^ 64 → digits_from 0 (decimal n) ≡ So
 read_decimal n h =
     let value = digits_value-decimal model n h in
     read_digits (2 ^ 64) 0 (decimal n) refl (are_digits n h) (subst (λ k. k < 2 ^ 64) (sym value) h) ∙ ap Some value
+
+pub read_back : (n : ℕ) → n < 2 ^ 64 → number_of (decimal n) ≡ Some n
+read_back n h = rw (read_decimal n h, (bytes_eq-Decides (decimal n) (decimal n)).1 refl) refl
+
+-- what reads as a text does reads as the number that is written so
+pub only_number : (text : List ℕ) (n : ℕ) → n < 2 ^ 64 → decimal n ≡ text → number_of text ≡ Some n
+only_number text n h e = ap number_of (sym e) ∙ read_back n h

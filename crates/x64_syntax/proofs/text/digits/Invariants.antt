@@ -1,6 +1,6 @@
 use Rattle.std.proofs.Common.{◌≡◌, drop}
-use Rattle.gas_text.specs.Apart.{digits_from}
-use Rattle.gas_text.proofs.apart.digits.Given as goal
+use Rattle.x64_syntax.specs.inner.Digits.{digits_from}
+use Rattle.x64_syntax.proofs.text.digits.Given as goal
 
 -- the digits that are left follow those that were read
 abbrev pub invariant-loop-byte : goal.invariant-loop-byte

@@ -1,8 +1,0 @@
-use Rattle.std.proofs.Common.{◌≡◌, drop}
-use Rattle.std.specs.Prelude.{map}
-use Rattle.x64_syntax.specs.Words.{named}
-use Rattle.x64_syntax.proofs.names.named.Given as goal
-
--- the rest gives what the whole gives
-abbrev pub invariant-loop-word : goal.invariant-loop-word
-invariant-loop-word g l = named (map (λ r. (r.0.now, r.1)) (drop l.word-index l.rows)) l.name ≡ named (map (λ r. (r.0.now, r.1)) l.rows) l.name
