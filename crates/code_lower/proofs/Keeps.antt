@@ -9,7 +9,7 @@ use Rattle.x64_syntax.specs.declared.items.Item.{Item}
 use Rattle.x64_syntax.specs.declared.items.Item.TheVariants as item
 use Rattle.x64_syntax.specs.Code.{Prog, Done, Step, If, Loop}
 use Rattle.x64_meaning.specs.State.{State, IsState}
-use Rattle.x64_meaning.specs.Run.{Way, start, stepped, run, act, Running, StandAt}
+use Rattle.x64_meaning.specs.Run.{Way, start, next_way, follow, item_step, run, Running, StandAt}
 use Rattle.x64_meaning.specs.Run as machine
 use Rattle.x64_meaning.specs.Contract.{Contract, Meets}
 use Rattle.code_lower.specs.Lowered.{compare, when, unless, labels, code_items, export_items}
@@ -30,7 +30,7 @@ module _ (items : List Item) (differ : LabelsDiffer items) where
     way = a.way;
     runs =
         ap (λ k. run items k pos w) (let e : suc m + a.more ≡ suc (m + a.more) = omega arith in e)
-        ∙ ap (λ o. act items o (run items (m + a.more)) pos w) h ∙ a.runs;
+        ∙ ap (λ o. follow w (item_step items o pos w.state) (run items (m + a.more))) h ∙ a.runs;
   }
 
   -- the turns of a loop, from the label of its test on
@@ -146,34 +146,18 @@ module _ (items : List Item) (differ : LabelsDiffer items) where
       (λ v f. guarded_led p (test + 1) last end stack n b.2.1.1.1 v f)
 
   -- a run that ended is the same with more steps
-  module _ (next further : machine.Next) (v : Way) (goes : (q : ℕ) (u : Way) → next q u ≡ machine.Ended v → further q u ≡ machine.Ended v) where
-    by_label : (o : Option ℕ) (w : Way) → machine.at_label o next w ≡ machine.Ended v → machine.at_label o further w ≡ machine.Ended v
-    by_label None w h = absurd cc
-    by_label (Some q) w h = goes q w h
-
-    by_outcome : (o : machine.Outcome) (pos : ℕ) (w : Way) → machine.after_does o next pos w ≡ machine.Ended v → machine.after_does o further pos w ≡ machine.Ended v
-    by_outcome (machine.Done s seen) pos w h = goes (pos + 1) _ h
-    by_outcome (machine.Faulted f) pos w h = absurd cc
-
-    by_branch : (o : Option FlagName) (b : Bool) (target : Option ℕ) (pos : ℕ) (w : Way) → machine.branch o b target next pos w ≡ machine.Ended v → machine.branch o b target further pos w ≡ machine.Ended v
-    by_branch (Some f) b target pos w h = absurd cc
-    by_branch None true target pos w h = by_label target _ h
-    by_branch None false target pos w h = goes (pos + 1) _ h
-
-    further_on : (o : Option Item) (pos : ℕ) (w : Way) → act items o next pos w ≡ machine.Ended v → act items o further pos w ≡ machine.Ended v
-    further_on None pos w h = absurd cc
-    further_on (Some (item.Ins i)) pos w h = by_outcome (machine.does i w.state) pos w h
-    further_on (Some (item.Label l)) pos w h = goes (pos + 1) _ h
-    further_on (Some (item.Entry name)) pos w h = goes (pos + 1) _ h
-    further_on (Some (item.Jmp l)) pos w h = by_label _ _ h
-    further_on (Some (item.Jcc c l)) pos w h = by_branch _ _ _ pos w h
-    further_on (Some item.Ret) pos w h = h
+  module _ (next further : ℕ → Way → machine.End) (v : Way) (goes : (q : ℕ) (u : Way) → next q u ≡ machine.Ended v → further q u ≡ machine.Ended v) where
+    further_on : (x : machine.Step) (w : Way) → follow w x next ≡ machine.Ended v → follow w x further ≡ machine.Ended v
+    further_on (machine.GoesOn pos s seen) w h = goes pos _ h
+    further_on machine.Ends w h = h
+    further_on (machine.Stops f) w h = absurd cc
+    further_on machine.Leaves w h = absurd cc
 
   ended_later : (m d pos : ℕ) (w v : Way) → run items m pos w ≡ machine.Ended v → run items (m + d) pos w ≡ machine.Ended v
   ended_later zero d pos w v h = absurd cc
   ended_later (suc m) d pos w v h =
       ap (λ k. run items k pos w) (let e : suc m + d ≡ suc (m + d) = omega arith in e)
-      ∙ further_on (run items m) (run items (m + d)) v (λ q u g. ended_later m d q u v g) (slice_get items pos) pos w h
+      ∙ further_on (run items m) (run items (m + d)) v (λ q u g. ended_later m d q u v g) (machine.step items pos w.state) w h
 
   -- where an export stands: its code between its entry and `ret`
   record Placed (pos k : ℕ) (name : List ℕ) (p : Prog) : Type 0 where
@@ -204,11 +188,11 @@ module _ (items : List Item) (differ : LabelsDiffer items) where
         let steps = all.steps in
         let count : v.steps + 2 ≡ 1 + all.taking = omega (arith, steps) in
         let two : v.steps + 1 + 1 ≡ v.steps + 2 = omega arith in
-        let same : ◌≡◌ {A = Way} (stepped (later 1 v) v.state []) (later 2 v) =
+        let same : ◌≡◌ {A = Way} (next_way (later 1 v) v.state []) (later 2 v) =
         ap (λ seen. record { state = v.state; seen = seen; steps = v.steps + 1 + 1 }) (append-nil v.seen)
         ∙ ap (λ steps. record { state = v.state; seen = v.seen; steps = steps }) two in
         ap (λ m. run items m pos (start s)) count ∙ all.goes 1
-        ∙ ap (λ o. act items o (run items 0) at.last (later 1 v)) at.ret ∙ ap machine.Ended same
+        ∙ ap (λ o. follow (later 1 v) (item_step items o at.last v.state) (run items 0)) at.ret ∙ ap machine.Ended same
 
     never_both : (w : Way) (q : ℕ) (u : Way) → machine.Ended w ≡ Running q u → ⊥
     never_both w q u h = absurd cc

@@ -14,7 +14,7 @@ use Rattle.term_core.specs.Value.{word, word_of}
 use Rattle.x64_meaning.specs.declared.machine.Obs.TheVariants.{Branch}
 use Rattle.x64_meaning.specs.State.{State, read}
 use Rattle.x64_meaning.specs.Table.{stored}
-use Rattle.x64_meaning.specs.Run.{Way, stepped, Outcome, does, Access, No, Loads, Stores, access, bytes_of}
+use Rattle.x64_meaning.specs.Run.{Way, next_way, Outcome, does, Access, No, Loads, Stores, access, bytes_of}
 use Rattle.x64_meaning.specs.Run as run
 use Rattle.code_lower.specs.Lowered.{compare}
 
@@ -50,7 +50,7 @@ abbrev pub stays : ℕ → State → Ins → Option ℕ → Bool
 stays stack s i block = lies_in s (extent s i (access s i)) (named stack i block)
 
 abbrev pub goes_on : Outcome → Way → Course
-goes_on (run.Done s seen) w = Ended (stepped w s seen)
+goes_on (run.Done s seen) w = Ended (next_way w s seen)
 goes_on (run.Faulted f) w = Faulted
 
 -- an instruction does what it does, and faults too where its access isn't wholly in the block that is named
@@ -83,11 +83,11 @@ test c l r s = compares c (word (read s (Reg l))) (operand s r)
 
 -- a step that does nothing: a label, or a jump without a condition
 abbrev pub passed : Way → Way
-passed w = stepped w w.state []
+passed w = next_way w w.state []
 
 -- a conditional jump, taken or not
 abbrev pub jumped : Bool → Way → Way
-jumped taken w = stepped w w.state (Branch taken ∷ [])
+jumped taken w = next_way w w.state (Branch taken ∷ [])
 
 -- a comparison, which leaves its flags, and what follows by whether the test holds
 abbrev pub tested : ℕ → Cmp → GeneralReg → Opr → (Bool → Way → Course) → Way → Course

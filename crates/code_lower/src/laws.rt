@@ -4,8 +4,8 @@ ghost use Rattle.std.specs.Prelude.{◌≡◌, ◌≢◌, ◌≤◌, ◌<◌, �
 ghost use Rattle.x64_syntax.specs.declared.items.Item.{Item};
 ghost use Rattle.x64_syntax.specs.Code.{Prog};
 ghost use Rattle.x64_syntax.specs.Programs.{program_ok};
-ghost use Rattle.x64_blocks.specs.Memory.{holds};
-ghost use Rattle.x64_meaning.specs.State.{State, IsState, block_at};
+ghost use Rattle.x64_blocks.specs.Memory.{holds, block_at};
+ghost use Rattle.x64_meaning.specs.State.{State, IsState};
 ghost use Rattle.x64_meaning.specs.Run.{Way, start, run, StandAt};
 ghost use Rattle.x64_meaning.specs.Run as machine;
 ghost use Rattle.x64_meaning.specs.Contract.{Contract, Meets};
@@ -32,7 +32,7 @@ pub fn more_turns()
 
 /// In a state of the machine the first block that holds an access is the only one.
 pub fn named_blocks()
-    ensures { (s : State) (k a size : ℕ) → IsState s → 0 < size → is_at k (position (holds a size) s.blocks) ≡ holds a size (block_at s k) }
+    ensures { (s : State) (k a size : ℕ) → IsState s → 0 < size → is_at k (position (holds a size) s.blocks) ≡ holds a size (block_at s.blocks k) }
 {}
 
 /// Exports one after another are a program; each stands in it as it is lowered, its labels behind those of the exports

@@ -1,14 +1,10 @@
 -- How runs go on after a step.
-use Rattle.std.proofs.Common.{◌≡◌, ℕ, ◌+◌, Bool, true, false, List, ◌++◌, length, Option, Some, None, refl, sym, ap, ◌∙◌}
-use Rattle.std.specs.Prelude.{Result, Ok, Err, nat_le, slice_get, position, if◌then◌else◌}
-use Rattle.std.specs.List.{find}
-use Rattle.x64_syntax.specs.declared.places.FlagName.{FlagName}
+use Rattle.std.proofs.Common.{◌≡◌, ℕ, ◌+◌, Bool, true, false, List, ◌++◌, length, refl, sym, ap, ◌∙◌}
+use Rattle.std.specs.Prelude.{Result, Ok, Err, nat_le, if◌then◌else◌}
 use Rattle.x64_syntax.specs.declared.items.Item.{Item}
-use Rattle.x64_syntax.specs.declared.items.Item.TheVariants as item
-use Rattle.x64_syntax.specs.Instructions.{cond_flags}
 use Rattle.x64_meaning.specs.declared.machine.Obs.{Obs}
-use Rattle.x64_meaning.specs.State.{State, flag}
-use Rattle.x64_meaning.specs.Run.{Way, Outcome, Done, does, Running, Stopped, Past, run, act, after_does, at_label, branch, is_label, is_undefined, cond_holds}
+use Rattle.x64_meaning.specs.State.{State}
+use Rattle.x64_meaning.specs.Run.{Way, Outcome, Done, Step, GoesOn, Ends, Stops, Leaves, ins_step, step, Running, Stopped, Past, follow, run}
 use Rattle.x64_meaning.specs.Run as machine
 use Rattle.x64_evaluator.specs.declared.end.End.{End}
 use Rattle.x64_evaluator.specs.declared.end.End.TheVariants.{Ended, Faulted, OffCode, Paused, TraceFull}
@@ -24,7 +20,7 @@ abbrev pub going : ℕ → Stand (Unit {0}) → Stand ℕ
 going pos x = stands (at_next pos x.next) x.state x.seen
 
 -- the step of an instruction is what the instruction leaves
-pub instruction_moves : (x : Outcome) (room pos k : ℕ) (s : State) (seen : List Obs) → going (pos + 1) (done room s seen x) ≡ moved room (way s seen k) (after_does x Running pos (way s seen k))
+pub instruction_moves : (x : Outcome) (room pos k : ℕ) (s : State) (seen : List Obs) → going (pos + 1) (done room s seen x) ≡ moved room (way s seen k) (follow (way s seen k) (ins_step x pos) Running)
 instruction_moves (Done t os) room pos k s seen = by (nat_le (length (seen ++ os)) room) where
   by : (b : Bool) → going (pos + 1) (if b then stands (Ok tt) t (seen ++ os) else stands (Err TraceFull) s seen) ≡ (if b then stands (Ok (pos + 1)) t (seen ++ os) else stands (Err TraceFull) s seen)
   by true = refl
@@ -37,27 +33,11 @@ Counted k (Running pos v) = v.steps ≡ k + 1
 Counted k (machine.Ended v) = v.steps ≡ k + 1
 Counted k _ = Unit {0}
 
-counted_at : (o : Option ℕ) (k : ℕ) (w : Way) → w.steps ≡ k + 1 → Counted k (at_label o Running w)
-counted_at None k w h = tt
-counted_at (Some pos) k w h = h
-
-counted_branch : (f : Option FlagName) (b : Bool) (target : Option ℕ) (pos : ℕ) (w : Way) → Counted w.steps (branch f b target Running pos w)
-counted_branch (Some f) b target pos w = tt
-counted_branch None true target pos w = counted_at target w.steps _ refl
-counted_branch None false target pos w = refl
-
-counted_does : (x : Outcome) (pos : ℕ) (w : Way) → Counted w.steps (after_does x Running pos w)
-counted_does (Done t os) pos w = refl
-counted_does (machine.Faulted f) pos w = tt
-
-counted : (items : List Item) (o : Option Item) (pos : ℕ) (w : Way) → Counted w.steps (act items o Running pos w)
-counted items None pos w = tt
-counted items (Some (item.Ins i)) pos w = counted_does (does i w.state) pos w
-counted items (Some (item.Label l)) pos w = refl
-counted items (Some (item.Entry name)) pos w = refl
-counted items (Some (item.Jmp l)) pos w = counted_at (position (is_label l) items) w.steps _ refl
-counted items (Some (item.Jcc c l)) pos w = counted_branch (find (λ f. is_undefined (flag w.state f)) (cond_flags c)) (cond_holds c w.state) (position (is_label l) items) pos w
-counted items (Some item.Ret) pos w = refl
+counted : (x : Step) (w : Way) → Counted w.steps (follow w x Running)
+counted (GoesOn pos s seen) w = refl
+counted Ends w = refl
+counted (Stops f) w = tt
+counted Leaves w = tt
 
 next_is : {a b : Result ℕ End} {s t : State} {l m : List Obs} → stands a s l ≡ stands b t m → a ≡ b
 next_is e = ap (λ x. x.next) e
@@ -136,7 +116,7 @@ module _ (items : List Item) (room pos k : ℕ) (s : State) (seen : List Obs) (n
   one = run items 1 pos (way s seen k)
 
   counted_one : Counted k one
-  counted_one = counted items (slice_get items pos) pos (way s seen k)
+  counted_one = counted (step items pos s) (way s seen k)
 
   pub goes_on : (q : ℕ) (t : State) (l : List Obs) → stands (Ok q) t l ≡ moved room (way s seen k) one → after_step room (way s seen k) next one ≡ next q (way t l (k + 1))
   goes_on q t l h = onward room (way s seen k) next one q t l counted_one h

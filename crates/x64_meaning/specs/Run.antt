@@ -123,6 +123,47 @@ cond_holds Ae s = not (is_one (flag s Cf))
 cond_holds Be s = is_one (flag s Cf) || is_one (flag s Zf)
 cond_holds A s = not (is_one (flag s Cf)) && not (is_one (flag s Zf))
 
+-- One step: it goes on at a position, with the state that it leaves and with what is seen of it; it ends the run; it can't
+-- be made; or it leaves the list.
+pub data Step : Type 0 where
+  GoesOn : ℕ → State → List Obs → Step
+  Ends : Step
+  Stops : Fault → Step
+  Leaves : Step
+
+abbrev pub is_label : ℕ → Item → Bool
+is_label l (item.Label m) = l == m
+is_label l _ = false
+
+-- a step to a label
+abbrev pub label_step : Option ℕ → State → List Obs → Step
+label_step None s seen = Leaves
+label_step (Some pos) s seen = GoesOn pos s seen
+
+abbrev pub ins_step : Outcome → ℕ → Step
+ins_step (Done s seen) pos = GoesOn (pos + 1) s seen
+ins_step (Faulted f) pos = Stops f
+
+-- a conditional jump, by the first flag that it reads and that is undefined, and by whether its condition holds
+abbrev pub branch_step : Option FlagName → Bool → Option ℕ → ℕ → State → Step
+branch_step (Some f) holds target pos s = Stops (UndefinedFlag f)
+branch_step None true target pos s = label_step target s (Branch true ∷ [])
+branch_step None false target pos s = GoesOn (pos + 1) s (Branch false ∷ [])
+
+-- by the item at the position; labels and entries do nothing, and `ret` ends the run
+abbrev pub item_step : List Item → Option Item → ℕ → State → Step
+item_step items None pos s = Leaves
+item_step items (Some (item.Ins i)) pos s = ins_step (does i s) pos
+item_step items (Some (item.Label l)) pos s = GoesOn (pos + 1) s []
+item_step items (Some (item.Entry name)) pos s = GoesOn (pos + 1) s []
+item_step items (Some (item.Jmp l)) pos s = label_step (position (is_label l) items) s []
+item_step items (Some (item.Jcc c l)) pos s =
+    branch_step (find (λ f. is_undefined (flag s f)) (cond_flags c)) (cond_holds c s) (position (is_label l) items) pos s
+item_step items (Some item.Ret) pos s = Ends
+
+abbrev pub step : List Item → ℕ → State → Step
+step items pos s = item_step items (slice_get items pos) pos s
+
 -- the state of a run, what was seen so far, and how many steps were made
 pub record Way : Type 0 where
   pub state : State
@@ -132,9 +173,9 @@ pub record Way : Type 0 where
 abbrev pub start : State → Way
 start s = record { state = s; seen = []; steps = 0 }
 
--- one more step
-abbrev pub stepped : Way → State → List Obs → Way
-stepped w s seen = record { state = s; seen = w.seen ++ seen; steps = w.steps + 1 }
+-- the way after one more step
+abbrev pub next_way : Way → State → List Obs → Way
+next_way w s seen = record { state = s; seen = w.seen ++ seen; steps = w.steps + 1 }
 
 -- how a run stands after at most so many steps
 pub data End : Type 0 where
@@ -143,43 +184,17 @@ pub data End : Type 0 where
   Stopped : Fault → End
   Past : End
 
-abbrev pub is_label : ℕ → Item → Bool
-is_label l (item.Label m) = l == m
-is_label l _ = false
-
-abbrev pub Next : Type 0
-Next = ℕ → Way → End
-
--- goes on at a label
-abbrev pub at_label : Option ℕ → Next → Way → End
-at_label None next w = Past
-at_label (Some pos) next w = next pos w
-
-abbrev pub after_does : Outcome → Next → ℕ → Way → End
-after_does (Done s seen) next pos w = next (pos + 1) (stepped w s seen)
-after_does (Faulted f) next pos w = Stopped f
-
--- a conditional jump, by the first flag that it reads and that is undefined, and by whether its condition holds
-abbrev pub branch : Option FlagName → Bool → Option ℕ → Next → ℕ → Way → End
-branch (Some f) holds target next pos w = Stopped (UndefinedFlag f)
-branch None true target next pos w = at_label target next (stepped w w.state (Branch true ∷ []))
-branch None false target next pos w = next (pos + 1) (stepped w w.state (Branch false ∷ []))
-
--- one item, by what goes on behind it; labels and entries do nothing, and `ret` ends the run
-abbrev pub act : List Item → Option Item → Next → ℕ → Way → End
-act items None next pos w = Past
-act items (Some (item.Ins i)) next pos w = after_does (does i w.state) next pos w
-act items (Some (item.Label l)) next pos w = next (pos + 1) (stepped w w.state [])
-act items (Some (item.Entry name)) next pos w = next (pos + 1) (stepped w w.state [])
-act items (Some (item.Jmp l)) next pos w = at_label (position (is_label l) items) next (stepped w w.state [])
-act items (Some (item.Jcc c l)) next pos w =
-    branch (find (λ f. is_undefined (flag w.state f)) (cond_flags c)) (cond_holds c w.state) (position (is_label l) items) next pos w
-act items (Some item.Ret) next pos w = Ended (stepped w w.state [])
+-- what follows a step
+abbrev pub follow : Way → Step → (ℕ → Way → End) → End
+follow w (GoesOn pos s seen) next = next pos (next_way w s seen)
+follow w Ends next = Ended (next_way w w.state [])
+follow w (Stops f) next = Stopped f
+follow w Leaves next = Past
 
 -- at most so many steps from a position
-abbrev pub run : List Item → ℕ → Next
+abbrev pub run : List Item → ℕ → ℕ → Way → End
 run items zero pos w = Running pos w
-run items (suc n) pos w = act items (slice_get items pos) (run items n) pos w
+run items (suc n) pos w = follow w (step items pos w.state) (run items n)
 
 -- these items stand in a list from a position on
 abbrev pub StandAt : List Item → ℕ → List Item → Type 0

@@ -16,7 +16,7 @@ use crate::arithmetic::{
     add_with, alu, is_set, multiply, multiply_apart, multiply_wide, one, shift,
 };
 use crate::laws::forms_as_in_the_table;
-use crate::machine::{Fault, Flag, Machine, Obs, Seen};
+use crate::machine::{Fault, Flag, Machine, Obs, Seen, are_words};
 use x64_syntax::{Cond, FlagName, Ins, Mem, Opr, Place, Reg, reads_of};
 
 fn displacement(mem: &Mem) -> u64
@@ -62,12 +62,6 @@ fn source(m: &Machine, s: &Opr) -> Result<(u64, Option<Obs>), Fault>
         Opr::M(mem) => load(m, address(m, mem)),
     }
 }
-
-// Registers are 16 words.
-fn are_words(regs: [u64; 16])
-    ensures length { length regs ≡ 16 }
-    ensures fits { (k : ℕ) → slice_index regs k < T }
-{}
 
 // The word that an instruction takes in beside its registers, and the access that this needs.
 fn taken(m: &Machine, ins: &Ins) -> Result<(u64, Option<Obs>), Fault>
