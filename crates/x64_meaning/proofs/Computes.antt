@@ -22,8 +22,7 @@ use Rattle.x64_meaning.specs.declared.machine.Flag.TheVariants.{Zero, Undefined}
 use Rattle.x64_meaning.specs.State.{State, reg, flag, read}
 use Rattle.x64_meaning.specs.Exp.{Exp, Before, After, Loaded, Int, W64, Un, Bin}
 use Rattle.x64_meaning.specs.Table.{Equation, gets, sets, int_of, sum, difference, xor_of, sum_with, sum_with_reaches, reaches, one_if, zero_of, sign_of, flags_of, sum_overflow, difference_overflow, logic_equations, alu_equations, flag_in, lower, upper, undefined, one_unless, product_equations, carry_equations, apply}
-use Rattle.x64_meaning.specs.Run.{is_one}
-use Rattle.x64_meaning.specs.Steps.{flag_if, negative, set_flag, set_reg, with_result, finished, difference_overflows, alu_done, multiplied, halves, wide_product, carried, Fits}
+use Rattle.x64_meaning.specs.Steps.{is_one, flag_if, negative, set_flag, set_reg, with_result, finished, difference_overflows, alu_done, multiplied, halves, wide_product, carried, Fits}
 use Rattle.x64_meaning.proofs.Numbers.{bit-lt, sum_in_two, plain_sum, plain_difference, difference_in_two}
 use Rattle.x64_meaning.proofs.Parts.{IsWord, IsWhole, IsTruth, IsFlag, constant, sum_word, difference_word, and_word, or_word, xor_word, number, whole_sum, as_word, reached, below, equal, flag_where, flag_unless, product_word, upper_word}
 use Rattle.x64_meaning.proofs.Parts as parts

@@ -1,8 +1,7 @@
 -- What one instruction does, and runs of flat code.
-use Rattle.std.specs.Prelude.{◌≡◌, ℕ, zero, suc, ◌+◌, ◌-◌, ◌*◌, ◌/◌, ◌%◌, length, Bool, true, false, not, ◌&&◌, ◌||◌, ◌==◌, List, [], ◌∷◌, ◌++◌, Option, Some, None, slice_get, position}
+use Rattle.std.specs.Prelude.{◌≡◌, ℕ, zero, suc, ◌+◌, ◌-◌, ◌/◌, ◌%◌, length, Bool, true, false, ◌&&◌, ◌==◌, List, [], ◌∷◌, ◌++◌, Option, Some, None, slice_get, position}
 use Rattle.std.specs.List.{find}
 use Rattle.std.specs.Int.{to_le_bytes, w64}
-use Rattle.x64_syntax.specs.declared.places.Reg.{Reg as GeneralReg}
 use Rattle.x64_syntax.specs.declared.places.Reg.TheVariants.{Rsp}
 use Rattle.x64_syntax.specs.declared.places.FlagName.{FlagName}
 use Rattle.x64_syntax.specs.declared.places.FlagName.TheVariants.{Cf, Zf, Sf, Of}
@@ -13,10 +12,9 @@ use Rattle.x64_syntax.specs.declared.instructions.Ins.TheVariants.{Push, Pop}
 use Rattle.x64_syntax.specs.Instructions.{cond_flags, loads_from, stores_to}
 use Rattle.x64_blocks.specs.Memory.{Range, store}
 use Rattle.x64_syntax.specs.declared.conditions.Cond.{Cond}
-use Rattle.x64_syntax.specs.declared.conditions.Cond.TheVariants.{E, Ne, B, Be, A, Ae}
 use Rattle.x64_syntax.specs.declared.items.Item.{Item}
 use Rattle.x64_syntax.specs.declared.items.Item.TheVariants as item
-use Rattle.term_core.specs.Value.{T, Val, Word, word, word_of}
+use Rattle.term_core.specs.Value.{T, Val, Word, word, truth}
 use Rattle.x64_meaning.specs.declared.machine.Flag.{Flag as FlagValue}
 use Rattle.x64_meaning.specs.declared.machine.Flag.TheVariants.{Zero, One, Undefined}
 use Rattle.x64_meaning.specs.declared.machine.Obs.{Obs}
@@ -25,15 +23,15 @@ use Rattle.x64_meaning.specs.declared.machine.Fault.{Fault}
 use Rattle.x64_meaning.specs.declared.machine.Fault.TheVariants.{Outside, UndefinedFlag}
 use Rattle.x64_meaning.specs.State.{State, flag, reg, read, write, load}
 use Rattle.x64_meaning.specs.Exp.{Exp, exp_value, no_words}
-use Rattle.x64_meaning.specs.Table.{equations, stored, load_size, apply, reads}
+use Rattle.x64_meaning.specs.Table.{holds, address_of, equations, stored, load_size, apply, reads}
 
--- scale * index, or 0 where there is no index
-abbrev pub scaled : State → Option (GeneralReg × ℕ) → ℕ
-scaled s None = 0
-scaled s (Some i) = i.1 * reg s i.0
+-- the value of an expression over one state
+abbrev pub value_in : State → Exp → Val
+value_in s e = exp_value (read s) (read s) no_words e
 
+-- the address of a memory operand, as in the table
 abbrev pub address : State → Mem → ℕ
-address s m = (reg s m.base + scaled s m.index + word_of m.disp) % T
+address s m = word (value_in s (address_of m))
 
 abbrev pub is_undefined : FlagValue → Bool
 is_undefined Zero = false
@@ -84,7 +82,7 @@ after s loaded i = moved i (apply s loaded (equations i) s)
 -- the bytes of the words that are stored
 abbrev pub bytes_of : State → List Exp → List ℕ
 bytes_of s [] = []
-bytes_of s (e ∷ es) = to_le_bytes w64 (word (exp_value (read s) (read s) no_words e)) ++ bytes_of s es
+bytes_of s (e ∷ es) = to_le_bytes w64 (word (value_in s e)) ++ bytes_of s es
 
 abbrev pub with_loaded : State → Ins → ℕ → ℕ → Option ℕ → Outcome
 with_loaded s i a size None = Faulted (Outside a)
@@ -109,19 +107,9 @@ with_flags s i None = with_access s i (access s i)
 abbrev pub does : Ins → State → Outcome
 does i s = with_flags s i (first_undefined (λ f. reads i (Flag f)) s)
 
-abbrev pub is_one : FlagValue → Bool
-is_one Zero = false
-is_one One = true
-is_one Undefined = false
-
--- whether a condition holds
+-- whether a condition holds, as in the table
 abbrev pub cond_holds : Cond → State → Bool
-cond_holds E s = is_one (flag s Zf)
-cond_holds Ne s = not (is_one (flag s Zf))
-cond_holds B s = is_one (flag s Cf)
-cond_holds Ae s = not (is_one (flag s Cf))
-cond_holds Be s = is_one (flag s Cf) || is_one (flag s Zf)
-cond_holds A s = not (is_one (flag s Cf)) && not (is_one (flag s Zf))
+cond_holds c s = truth (value_in s (holds c))
 
 -- One step: it goes on at a position, with the state that it leaves and with what is seen of it; it ends the run; it can't
 -- be made; or it leaves the list.
@@ -146,7 +134,7 @@ ins_step (Faulted f) pos = Stops f
 
 -- a conditional jump, by the first flag that it reads and that is undefined, and by whether its condition holds
 abbrev pub branch_step : Option FlagName → Bool → Option ℕ → ℕ → State → Step
-branch_step (Some f) holds target pos s = Stops (UndefinedFlag f)
+branch_step (Some f) is_met target pos s = Stops (UndefinedFlag f)
 branch_step None true target pos s = label_step target s (Branch true ∷ [])
 branch_step None false target pos s = GoesOn (pos + 1) s (Branch false ∷ [])
 

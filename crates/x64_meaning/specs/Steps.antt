@@ -1,9 +1,12 @@
 -- What one step of the machine that runs leaves: in plain numbers, and against what the instruction does.
-use Rattle.std.specs.Prelude.{◌≡◌, ℕ, ◌<◌, length, if◌then◌else◌, ◌+◌, ◌-◌, ◌*◌, ◌/◌, ◌%◌, ◌^◌, Bool, true, false, not, nat_le, ◌==◌, List, [], ◌∷◌, Option, Some, None, Result, Ok, Err, bit_and, bit_or, bit_xor, slice_set}
+use Rattle.std.specs.Prelude.{◌≡◌, ℕ, ◌<◌, length, if◌then◌else◌, ◌+◌, ◌-◌, ◌*◌, ◌/◌, ◌%◌, ◌^◌, Bool, true, false, not, ◌&&◌, ◌||◌, nat_le, ◌==◌, List, [], ◌∷◌, Option, Some, None, Result, Ok, Err, bit_and, bit_or, bit_xor, slice_set}
 use Rattle.x64_syntax.specs.declared.places.Reg.{Reg as GeneralReg}
 use Rattle.x64_syntax.specs.declared.places.Reg.TheVariants.{Rax, Rdx, Rsp}
 use Rattle.x64_syntax.specs.declared.places.FlagName.{FlagName}
 use Rattle.x64_syntax.specs.declared.places.FlagName.TheVariants.{Cf, Zf, Sf, Of}
+use Rattle.x64_syntax.specs.declared.conditions.Cond.{Cond}
+use Rattle.x64_syntax.specs.declared.conditions.Cond.TheVariants.{E, Ne, B, Be, A, Ae}
+use Rattle.x64_syntax.specs.declared.operands.Mem.{Mem}
 use Rattle.x64_syntax.specs.declared.operands.Opr.{Opr}
 use Rattle.x64_syntax.specs.declared.operands.Opr.TheVariants.{R, Imm, M}
 use Rattle.x64_syntax.specs.declared.instructions.AluOp.{AluOp}
@@ -26,7 +29,7 @@ use Rattle.x64_meaning.specs.declared.machine.Fault.{Fault}
 use Rattle.x64_meaning.specs.declared.machine.Fault.TheVariants.{Outside, UndefinedFlag}
 use Rattle.x64_meaning.specs.declared.machine.Obs.TheVariants.{Access}
 use Rattle.x64_meaning.specs.State.{State, reg, flag, load}
-use Rattle.x64_meaning.specs.Run.{Outcome, Done, Faulted, address, is_one, cond_holds, is_undefined}
+use Rattle.x64_meaning.specs.Run.{Outcome, Done, Faulted, address, cond_holds, is_undefined}
 
 -- the one observation of a step, or none
 abbrev pub last_of : List Obs → Option Obs
@@ -51,6 +54,30 @@ defined (Some f) = Err (UndefinedFlag f)
 -- the flag is defined where it is read
 abbrev pub defined_flag : (FlagName → Bool) → State → FlagName → Result (Unit {0}) Fault
 defined_flag is_read s f = if is_read f then (if is_undefined (flag s f) then Err (UndefinedFlag f) else Ok tt) else Ok tt
+
+-- whether a flag is 1
+abbrev pub is_one : Flag → Bool
+is_one Zero = false
+is_one One = true
+is_one Undefined = false
+
+-- whether the flags meet a condition
+abbrev pub flags_meet : Cond → State → Bool
+flags_meet E s = is_one (flag s Zf)
+flags_meet Ne s = not (is_one (flag s Zf))
+flags_meet B s = is_one (flag s Cf)
+flags_meet Ae s = not (is_one (flag s Cf))
+flags_meet Be s = is_one (flag s Cf) || is_one (flag s Zf)
+flags_meet A s = not (is_one (flag s Cf)) && not (is_one (flag s Zf))
+
+-- scale * index, or 0 where there is no index
+abbrev pub index_part : State → Option (GeneralReg × ℕ) → ℕ
+index_part s None = 0
+index_part s (Some i) = i.1 * reg s i.0
+
+-- base, index and displacement, added
+abbrev pub address_sum : State → Mem → ℕ
+address_sum s m = (reg s m.base + index_part s m.index + word_of m.disp) % T
 
 -- a flag that says whether something holds
 abbrev pub flag_if : Bool → Flag

@@ -2,8 +2,7 @@
 
 ghost use Rattle.std.specs.Prelude.{◌≡◌, ◌≤◌, ◌<◌, not, ◌==◌, bit_and, bit_xor};
 ghost use Rattle.x64_meaning.specs.State.{flag};
-ghost use Rattle.x64_meaning.specs.Run.{is_one};
-ghost use Rattle.x64_meaning.specs.Steps.{flag_if, negative, bit_at, with_result, finished, summed, difference_overflows, subtracted, compared, alu_done, one_done, rotated, shift_done, multiplied, wide_product, halves, carried};
+ghost use Rattle.x64_meaning.specs.Steps.{is_one, flag_if, negative, bit_at, with_result, finished, summed, difference_overflows, subtracted, compared, alu_done, one_done, rotated, shift_done, multiplied, wide_product, halves, carried};
 
 use crate::machine::{Flag, Machine};
 use word_ops::{add_carry, mul_wide, rotate_left, rotate_right, sub_borrow};

@@ -10,7 +10,7 @@ ghost use Rattle.x64_blocks.specs.Memory.{store};
 ghost use Rattle.term_core.specs.Value.{T, word_of};
 ghost use Rattle.x64_meaning.specs.State.{flag, load};
 ghost use Rattle.x64_meaning.specs.Run.{is_undefined, address, access, with_access, does, cond_holds, first_undefined};
-ghost use Rattle.x64_meaning.specs.Steps.{loaded, sourced, taken, computed, Fits, is_general, defined_flag, defined, Puts, Acts, Steps, Foresees, WouldPut};
+ghost use Rattle.x64_meaning.specs.Steps.{flags_meet, address_sum, loaded, sourced, taken, computed, Fits, is_general, defined_flag, defined, Puts, Acts, Steps, Foresees, WouldPut};
 
 use crate::arithmetic::{
     add_with, alu, is_set, multiply, multiply_apart, multiply_wide, one, shift,
@@ -25,9 +25,9 @@ fn displacement(mem: &Mem) -> u64
     i64::from(mem.disp).cast_unsigned()
 }
 
-// The address of a memory operand, modulo 2^64.
-fn address(m: &Machine, mem: &Mem) -> u64
-    ensures { result ≡ address m.now mem.now }
+// Base, index and displacement, added modulo 2^64.
+fn address_sum(m: &Machine, mem: &Mem) -> u64
+    ensures { result ≡ address_sum m.now mem.now }
 {
     let base = m.regs[mem.base.number()];
     let index = match mem.index {
@@ -35,6 +35,14 @@ fn address(m: &Machine, mem: &Mem) -> u64
         None => 0,
     };
     base.wrapping_add(index).wrapping_add(displacement(mem))
+}
+
+// The address of a memory operand, as in the table.
+fn address(m: &Machine, mem: &Mem) -> u64
+    ensures { result ≡ address m.now mem.now }
+{
+    m.is_a_state();
+    address_sum(m, mem)
 }
 
 // The word at an address, and the access.
@@ -110,9 +118,9 @@ fn compute(m: &mut Machine, ins: &Ins, word: u64)
     }
 }
 
-/// Whether a condition holds, where the flags that it reads are defined.
-pub fn holds(m: &Machine, c: Cond) -> bool
-    ensures { result ≡ cond_holds c m.now }
+// Whether the flags meet a condition.
+fn flags_meet(m: &Machine, c: Cond) -> bool
+    ensures { result ≡ flags_meet c m.now }
 {
     let cf = is_set(m, FlagName::Cf);
     let zf = is_set(m, FlagName::Zf);
@@ -124,6 +132,13 @@ pub fn holds(m: &Machine, c: Cond) -> bool
         Cond::Be => cf || zf,
         Cond::A => !cf && !zf,
     }
+}
+
+/// Whether a condition holds, where the flags that it reads are defined.
+pub fn holds(m: &Machine, c: Cond) -> bool
+    ensures { result ≡ cond_holds c m.now }
+{
+    flags_meet(m, c)
 }
 
 // Stores a word, and what an observer sees of it.
