@@ -21,7 +21,7 @@ use Rattle.x64_meaning.specs.declared.machine.Flag.{Flag as FlagValue}
 use Rattle.x64_meaning.specs.declared.machine.Flag.TheVariants.{Undefined}
 use Rattle.x64_meaning.specs.State.{State, read, flag, flag_from}
 use Rattle.x64_meaning.specs.Exp.{no_words}
-use Rattle.x64_meaning.specs.Steps.{flag_if, is_one, flags_meet}
+use Rattle.x64_meaning.specs.inner.Steps.{flag_if, is_one, flags_meet}
 use Rattle.x64_meaning.specs.Run.{Done, does, after, is_undefined, cond_holds}
 use Rattle.x64_meaning.proofs.Numbers.{word_of-lt}
 use Rattle.x64_meaning.proofs.Plain.{cond_by_flags}

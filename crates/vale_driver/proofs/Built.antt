@@ -22,7 +22,7 @@ use Rattle.x64_syntax.specs.Code.{Prog, Step, prog, node_tree, node_layer, has_b
 use Rattle.x64_syntax.specs.Programs.{program_ok}
 use Rattle.x64_syntax.specs.Places.{reg_eq}
 use Rattle.x64_syntax.proofs.PlaceLemmas.{reg_eq_is}
-use Rattle.x64_meaning.specs.Condition.{no_functions, is_plain, unwritten, straight_items, StraightFits}
+use Rattle.x64_meaning.specs.Condition.{no_functions, is_plain, keeps_place, straight_items, StraightFits}
 use Rattle.x64_meaning.specs.Contract.{Meets, SameRuns}
 use Rattle.x64_meaning.specs.Exp.{among}
 use Rattle.x64_meaning.specs.Table.{writes}
@@ -149,7 +149,7 @@ straight_lowered p =
     append-nil (export_items 0 p.export (steps_of p.instructions))
     ∙ ap (λ l. item.Entry p.export ∷ (l ++ item.Ret ∷ [])) (code_is 0 p.instructions)
 
-declared : (p : StraightLine) (is : List Ins) (q : Place) → AllByRecursion (IsInstruction p.registers) is → is_changed p q ≡ false → unwritten is q ≡ true
+declared : (p : StraightLine) (is : List Ins) (q : Place) → AllByRecursion (IsInstruction p.registers) is → is_changed p q ≡ false → keeps_place is q ≡ true
 declared p [] q h out = refl
 declared p (i ∷ is) q h out = and_from _ _ (unwritten_by p.registers i q h.0 (is_changed p) (λ r. refl) (λ f. refl) out) (declared p is q h.1 out)
 

@@ -7,7 +7,7 @@ use Rattle.x64_meaning.specs.Run.{Way, Step, GoesOn, Ends, Stops, Leaves, step, 
 use Rattle.x64_meaning.specs.Run as machine
 use Rattle.x64_evaluator.specs.declared.end.End.{End}
 use Rattle.x64_evaluator.specs.declared.end.End.TheVariants.{Ended, Faulted, OffCode, Paused, TraceFull}
-use Rattle.x64_evaluator.specs.Evaluated.{Halt, after_step, halted, evaluated, Before, IsRun}
+use Rattle.x64_evaluator.specs.Evaluated.{Halt, after_step, halt_at, evaluation, Before, IsRun}
 
 -- goes on where a run goes on
 abbrev then_ : (ℕ → Way → machine.End) → machine.End → machine.End
@@ -45,15 +45,15 @@ module _ (items : List Item) (pos p : ℕ) (w v : Way) (first : run items 1 pos 
 abbrev Tells : List Item → ℕ → ℕ → ℕ → Way → Halt → Type 0
 Tells items room n pos w h = IsRun items room n pos w h.end h.way
 
-pub is_run : (items : List Item) (room n pos : ℕ) (w : Way) → Tells items room n pos w (evaluated items room n pos w)
+pub is_run : (items : List Item) (room n pos : ℕ) (w : Way) → Tells items room n pos w (evaluation items room n pos w)
 is_run items room zero pos w = (pos, refl)
 is_run items room (suc n) pos w = by (λ p v. is_run items room n p v) (run items 1 pos w) refl
   where
-    by : ((p : ℕ) (v : Way) → Tells items room n p v (evaluated items room n p v)) → (x : machine.End) → run items 1 pos w ≡ x → Tells items room (suc n) pos w (after_step room w (evaluated items room n) x)
+    by : ((p : ℕ) (v : Way) → Tells items room n p v (evaluation items room n p v)) → (x : machine.End) → run items 1 pos w ≡ x → Tells items room (suc n) pos w (after_step room w (evaluation items room n) x)
     by rest (Running p v) first = by_room (nat_le (length v.seen) room) refl
       where
-        by_room : (b : Bool) → nat_le (length v.seen) room ≡ b → Tells items room (suc n) pos w (if b then evaluated items room n p v else halted TraceFull w)
-        by_room true fits = run_later items pos p w v first room n (evaluated items room n p v).end (evaluated items room n p v).way (rest p v)
+        by_room : (b : Bool) → nat_le (length v.seen) room ≡ b → Tells items room (suc n) pos w (if b then evaluation items room n p v else halt_at TraceFull w)
+        by_room true fits = run_later items pos p w v first room n (evaluation items room n p v).end (evaluation items room n p v).way (rest p v)
         by_room false full = (0, pos, omega arith, refl, (p, v, first, leb-false (length v.seen) room full))
     by rest (machine.Ended v) first = (1, omega arith, first)
     by rest (Stopped f) first = (0, pos, omega arith, refl, first)

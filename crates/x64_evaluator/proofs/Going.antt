@@ -8,8 +8,8 @@ use Rattle.x64_meaning.specs.Run.{Way, Outcome, Done, Step, GoesOn, Ends, Stops,
 use Rattle.x64_meaning.specs.Run as machine
 use Rattle.x64_evaluator.specs.declared.end.End.{End}
 use Rattle.x64_evaluator.specs.declared.end.End.TheVariants.{Ended, Faulted, OffCode, Paused, TraceFull}
-use Rattle.x64_evaluator.specs.Evaluated.{Halt, halted, after_step, way}
-use Rattle.x64_evaluator.specs.Moves.{Stand, stands, moved, done, steps_by}
+use Rattle.x64_evaluator.specs.Evaluated.{Halt, halt_at, after_step, way}
+use Rattle.x64_evaluator.specs.inner.Moves.{Stand, stands, step_stand, done, steps_by}
 
 -- at this position next, where something is
 abbrev at_next : ℕ → Result (Unit {0}) End → Result ℕ End
@@ -20,7 +20,7 @@ abbrev pub going : ℕ → Stand (Unit {0}) → Stand ℕ
 going pos x = stands (at_next pos x.next) x.state x.seen
 
 -- the step of an instruction is what the instruction leaves
-pub instruction_moves : (x : Outcome) (room pos k : ℕ) (s : State) (seen : List Obs) → going (pos + 1) (done room s seen x) ≡ moved room (way s seen k) (follow (way s seen k) (ins_step x pos) Running)
+pub instruction_moves : (x : Outcome) (room pos k : ℕ) (s : State) (seen : List Obs) → going (pos + 1) (done room s seen x) ≡ step_stand room (way s seen k) (follow (way s seen k) (ins_step x pos) Running)
 instruction_moves (Done t os) room pos k s seen = by (nat_le (length (seen ++ os)) room) where
   by : (b : Bool) → going (pos + 1) (if b then stands (Ok tt) t (seen ++ os) else stands (Err TraceFull) s seen) ≡ (if b then stands (Ok (pos + 1)) t (seen ++ os) else stands (Err TraceFull) s seen)
   by true = refl
@@ -59,10 +59,10 @@ way_is {t = t} {l = l} {m = m} {a = a} e f g = ap (λ s. way s l a) e ∙ ap (λ
 
 module _ (room : ℕ) (w : Way) (next : ℕ → Way → Halt) where
   -- where a step leads to another
-  onward : (x : machine.End) (pos : ℕ) (s : State) (seen : List Obs) → Counted w.steps x → stands (Ok pos) s seen ≡ moved room w x → after_step room w next x ≡ next pos (way s seen (w.steps + 1))
+  onward : (x : machine.End) (pos : ℕ) (s : State) (seen : List Obs) → Counted w.steps x → stands (Ok pos) s seen ≡ step_stand room w x → after_step room w next x ≡ next pos (way s seen (w.steps + 1))
   onward (Running p v) pos s seen c h = by (nat_le (length v.seen) room) h
     where
-      by : (b : Bool) → stands (Ok pos) s seen ≡ (if b then stands (Ok p) v.state v.seen else stands (Err TraceFull) w.state w.seen) → (if b then next p v else halted TraceFull w) ≡ next pos (way s seen (w.steps + 1))
+      by : (b : Bool) → stands (Ok pos) s seen ≡ (if b then stands (Ok p) v.state v.seen else stands (Err TraceFull) w.state w.seen) → (if b then next p v else halt_at TraceFull w) ≡ next pos (way s seen (w.steps + 1))
       by true h =
           ap (λ q. next q v) (sym (same_pos (next_is h))) ∙ ap (next pos) (way_is (sym (ap (λ x. x.state) h)) (sym (ap (λ x. x.seen) h)) c)
       by false h = absurd (let e = next_is h in no_ok e)
@@ -80,17 +80,17 @@ module _ (room : ℕ) (w : Way) (next : ℕ → Way → Halt) where
     no_ok e = cc
 
   -- where it is the last
-  last : (x : machine.End) (s : State) (seen : List Obs) → Counted w.steps x → stands (Err Ended) s seen ≡ moved room w x → after_step room w next x ≡ halted Ended (way s seen (w.steps + 1))
+  last : (x : machine.End) (s : State) (seen : List Obs) → Counted w.steps x → stands (Err Ended) s seen ≡ step_stand room w x → after_step room w next x ≡ halt_at Ended (way s seen (w.steps + 1))
   last (Running p v) s seen c h = by (nat_le (length v.seen) room) h
     where
-      by : (b : Bool) → stands (Err Ended) s seen ≡ (if b then stands (Ok p) v.state v.seen else stands (Err TraceFull) w.state w.seen) → (if b then next p v else halted TraceFull w) ≡ halted Ended (way s seen (w.steps + 1))
+      by : (b : Bool) → stands (Err Ended) s seen ≡ (if b then stands (Ok p) v.state v.seen else stands (Err TraceFull) w.state w.seen) → (if b then next p v else halt_at TraceFull w) ≡ halt_at Ended (way s seen (w.steps + 1))
       by true h = absurd (no_ok (next_is h)) where
         no_ok : ◌≡◌ {A = Result ℕ End} (Err Ended) (Ok p) → ⊥
         no_ok e = cc
       by false h = absurd (no_end (same_end (next_is h))) where
         no_end : Ended ≡ TraceFull → ⊥
         no_end e = cc
-  last (machine.Ended v) s seen c h = ap (halted Ended) (way_is (sym (ap (λ x. x.state) h)) (sym (ap (λ x. x.seen) h)) c)
+  last (machine.Ended v) s seen c h = ap (halt_at Ended) (way_is (sym (ap (λ x. x.state) h)) (sym (ap (λ x. x.seen) h)) c)
   last (Stopped f) s seen c h = absurd (no_end (same_end (next_is h))) where
     no_end : Ended ≡ Faulted f → ⊥
     no_end e = cc
@@ -99,17 +99,17 @@ module _ (room : ℕ) (w : Way) (next : ℕ → Way → Halt) where
     no_end e = cc
 
   -- where it isn't made
-  unmade : (x : machine.End) (e : End) (s : State) (seen : List Obs) → (e ≡ Ended → ⊥) → stands (Err e) s seen ≡ moved room w x → after_step room w next x ≡ halted e (way s seen w.steps)
+  unmade : (x : machine.End) (e : End) (s : State) (seen : List Obs) → (e ≡ Ended → ⊥) → stands (Err e) s seen ≡ step_stand room w x → after_step room w next x ≡ halt_at e (way s seen w.steps)
   unmade (Running p v) e s seen not_ended h = by (nat_le (length v.seen) room) h
     where
-      by : (b : Bool) → stands (Err e) s seen ≡ (if b then stands (Ok p) v.state v.seen else stands (Err TraceFull) w.state w.seen) → (if b then next p v else halted TraceFull w) ≡ halted e (way s seen w.steps)
+      by : (b : Bool) → stands (Err e) s seen ≡ (if b then stands (Ok p) v.state v.seen else stands (Err TraceFull) w.state w.seen) → (if b then next p v else halt_at TraceFull w) ≡ halt_at e (way s seen w.steps)
       by true h = absurd (no_ok (next_is h)) where
         no_ok : ◌≡◌ {A = Result ℕ End} (Err e) (Ok p) → ⊥
         no_ok e = cc
-      by false h = ap (λ f. halted f w) (sym (same_end (next_is h))) ∙ ap (halted e) (way_is (sym (ap (λ x. x.state) h)) (sym (ap (λ x. x.seen) h)) refl)
+      by false h = ap (λ f. halt_at f w) (sym (same_end (next_is h))) ∙ ap (halt_at e) (way_is (sym (ap (λ x. x.state) h)) (sym (ap (λ x. x.seen) h)) refl)
   unmade (machine.Ended v) e s seen not_ended h = absurd (not_ended (same_end (next_is h)))
-  unmade (Stopped f) e s seen not_ended h = ap (λ f. halted f w) (sym (same_end (next_is h))) ∙ ap (halted e) (way_is (sym (ap (λ x. x.state) h)) (sym (ap (λ x. x.seen) h)) refl)
-  unmade Past e s seen not_ended h = ap (λ f. halted f w) (sym (same_end (next_is h))) ∙ ap (halted e) (way_is (sym (ap (λ x. x.state) h)) (sym (ap (λ x. x.seen) h)) refl)
+  unmade (Stopped f) e s seen not_ended h = ap (λ f. halt_at f w) (sym (same_end (next_is h))) ∙ ap (halt_at e) (way_is (sym (ap (λ x. x.state) h)) (sym (ap (λ x. x.seen) h)) refl)
+  unmade Past e s seen not_ended h = ap (λ f. halt_at f w) (sym (same_end (next_is h))) ∙ ap (halt_at e) (way_is (sym (ap (λ x. x.state) h)) (sym (ap (λ x. x.seen) h)) refl)
 
 module _ (items : List Item) (room pos k : ℕ) (s : State) (seen : List Obs) (next : ℕ → Way → Halt) where
   abbrev one : machine.End
@@ -118,10 +118,10 @@ module _ (items : List Item) (room pos k : ℕ) (s : State) (seen : List Obs) (n
   counted_one : Counted k one
   counted_one = counted (step items pos s) (way s seen k)
 
-  pub goes_on : (q : ℕ) (t : State) (l : List Obs) → stands (Ok q) t l ≡ moved room (way s seen k) one → after_step room (way s seen k) next one ≡ next q (way t l (k + 1))
+  pub goes_on : (q : ℕ) (t : State) (l : List Obs) → stands (Ok q) t l ≡ step_stand room (way s seen k) one → after_step room (way s seen k) next one ≡ next q (way t l (k + 1))
   goes_on q t l h = onward room (way s seen k) next one q t l counted_one h
 
-  pub ends : (e : End) (t : State) (l : List Obs) → stands (Err e) t l ≡ moved room (way s seen k) one → after_step room (way s seen k) next one ≡ halted e (way t l (steps_by e k))
+  pub ends : (e : End) (t : State) (l : List Obs) → stands (Err e) t l ≡ step_stand room (way s seen k) one → after_step room (way s seen k) next one ≡ halt_at e (way t l (steps_by e k))
   ends Ended t l h = last room (way s seen k) next one t l counted_one h
   ends (Faulted f) t l h = unmade room (way s seen k) next one (Faulted f) t l (λ e. cc) h
   ends OffCode t l h = unmade room (way s seen k) next one OffCode t l (λ e. cc) h

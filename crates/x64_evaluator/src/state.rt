@@ -3,8 +3,8 @@
 ghost use Rattle.std.specs.Prelude.{◌≡◌, ◌<◌, ◌≤◌, ◌+◌, ◌++◌, ◌∷◌, [], List, length, codes, IfOk, IfErr, true};
 ghost use Rattle.x64_blocks.specs.Memory.{Range};
 ghost use Rattle.x64_meaning.specs.State.{IsState};
-ghost use Rattle.x64_evaluator.specs.StateFile.{lines_of, Setting, Value, Block, setting_text, limit, are_bytes, put, IsStateOf, IsNoState};
-ghost use Rattle.x64_evaluator.specs.Setting.{Holds, Takes, Adds};
+ghost use Rattle.x64_evaluator.specs.StateFile.{lines_of, Setting, Value, Block, setting_text, limit, are_bytes, with_setting, IsStateOf, IsNoState};
+ghost use Rattle.x64_evaluator.specs.inner.Setting.{Holds, Takes, Adds};
 
 use crate::settings::{range_of, value_of};
 use memchr::memchr;
@@ -60,7 +60,7 @@ fn first_line(text: &[u8]) -> (&[u8], &[u8])
 // Gives a place a value.
 fn put(m: &mut Machine, place: Place, n: u128)
     requires { n < limit place }
-    ensures { m.new ≡ put m.old (Value place n) }
+    ensures { m.new ≡ with_setting m.old (Value place n) }
 {
     match place {
         Place::Reg(reg) => m.regs[reg.number()] = n as u64,

@@ -26,9 +26,9 @@ use Rattle.x64_meaning.specs.declared.machine.Flag.TheVariants.{Undefined}
 use Rattle.x64_meaning.specs.State.{State, reg, flag, read}
 use Rattle.x64_meaning.specs.Exp.{Exp, Before, After, W64, Un, Bin, Ite, exp_value}
 use Rattle.x64_meaning.specs.Exp as exp
-use Rattle.x64_meaning.specs.Table.{gets, sets, sum, difference, one_unless, one_if, one_equations, shift_equations, bit_of, undefined, is_set, holds, scaled_of, address_of, apply}
+use Rattle.x64_meaning.specs.Table.{gets, sets, sum, difference, one_unless, one_if, one_equations, shift_equations, bit_of, undefined_flag, is_set, holds, scaled_of, address_of, apply}
 use Rattle.x64_meaning.specs.Run.{address, cond_holds}
-use Rattle.x64_meaning.specs.Steps.{flag_if, set_reg, one_done, bit_at, rotated, shift_done, Fits}
+use Rattle.x64_meaning.specs.inner.Steps.{flag_if, set_reg, one_effect, bit_at, rotation_state, shift_effect, Fits}
 use Rattle.x64_meaning.proofs.Numbers.{plain_difference, addressed, word_of-lt}
 use Rattle.x64_meaning.proofs.Parts.{IsWord, IsTruth, IsFlag, constant, sum_word, difference_word, and_word, not_word, product_word, equal, flag_where, flag_unless, set_is}
 use Rattle.x64_meaning.proofs.Computes.{one_reg, finishes}
@@ -78,10 +78,10 @@ module _ (s : State) (m : ℕ → Val) (d : GeneralReg) (fits : Fits s) where
         let both = and_word (read s) (read now) m (exp.Shift counted.Shr n A) (W64 1) (a / 2 ^ n) 1 (shr_word n) one in
         flag_where (read s) (read now) m _ _ (equal (read s) (read now) m (Bin bin.And (exp.Shift counted.Shr n A) (W64 1)) (W64 1) (bit_and (a / 2 ^ n) 1) 1 both one)
 
-    open_flag : IsF undefined Undefined
+    open_flag : IsF undefined_flag Undefined
     open_flag = record { value = refl }
 
-  pub one_leaves : (op : OneOp) → apply s m (one_equations op (Reg d) A (After (Reg d))) s ≡ one_done op s d
+  pub one_leaves : (op : OneOp) → apply s m (one_equations op (Reg d) A (After (Reg d))) s ≡ one_effect op s d
   one_leaves one.Neg =
       let zero : (now : State) → IsW now (W64 0) 0 = λ now. constant (read s) (read now) m 0 (omega arith) in
       let half : (now : State) → IsW now (W64 (2 ^ 63)) (2 ^ 63) = λ now. constant (read s) (read now) m (2 ^ 63) (omega arith) in
@@ -92,12 +92,12 @@ module _ (s : State) (m : ℕ → Val) (d : GeneralReg) (fits : Fits s) where
       (λ now h. flag_where (read s) (read now) m _ _ (equal (read s) (read now) m A (W64 (2 ^ 63)) a (2 ^ 63) (held now d) (half now)))
   one_leaves one.Not = one_reg s s m d (Un un.Not A) (T - 1 - a) [] (not_word (read s) (read s) m A a (held s d))
 
-  rotates_leaves : (op : CountedOp) (n r : ℕ) → IsW s (exp.Shift op n A) r → apply s m (gets (Reg d) (exp.Shift op n A) ∷ sets Cf undefined ∷ sets Of undefined ∷ []) s ≡ rotated s d r
-  rotates_leaves op n r h = one_reg s s m d (exp.Shift op n A) r (sets Cf undefined ∷ sets Of undefined ∷ []) h
+  rotates_leaves : (op : CountedOp) (n r : ℕ) → IsW s (exp.Shift op n A) r → apply s m (gets (Reg d) (exp.Shift op n A) ∷ sets Cf undefined_flag ∷ sets Of undefined_flag ∷ []) s ≡ rotation_state s d r
+  rotates_leaves op n r h = one_reg s s m d (exp.Shift op n A) r (sets Cf undefined_flag ∷ sets Of undefined_flag ∷ []) h
 
-  pub shift_leaves : (op : ShiftOp) (n : ℕ) → apply s m (shift_equations op (Reg d) n A (After (Reg d))) s ≡ shift_done op s d n
-  shift_leaves shift.Shl n = finishes s m d (exp.Shift counted.Shl n A) (bit_of (64 - n) A) undefined ((a * 2 ^ n) % T) (flag_if (bit_at (64 - n) a)) Undefined fits (shl_word s n) (λ now h. bit_flag now (64 - n)) (λ now h. open_flag now)
-  shift_leaves shift.Shr n = finishes s m d (exp.Shift counted.Shr n A) (bit_of (n - 1) A) undefined (a / 2 ^ n) (flag_if (bit_at (n - 1) a)) Undefined fits (shr_word s n) (λ now h. bit_flag now (n - 1)) (λ now h. open_flag now)
+  pub shift_leaves : (op : ShiftOp) (n : ℕ) → apply s m (shift_equations op (Reg d) n A (After (Reg d))) s ≡ shift_effect op s d n
+  shift_leaves shift.Shl n = finishes s m d (exp.Shift counted.Shl n A) (bit_of (64 - n) A) undefined_flag ((a * 2 ^ n) % T) (flag_if (bit_at (64 - n) a)) Undefined fits (shl_word s n) (λ now h. bit_flag now (64 - n)) (λ now h. open_flag now)
+  shift_leaves shift.Shr n = finishes s m d (exp.Shift counted.Shr n A) (bit_of (n - 1) A) undefined_flag (a / 2 ^ n) (flag_if (bit_at (n - 1) a)) Undefined fits (shr_word s n) (λ now h. bit_flag now (n - 1)) (λ now h. open_flag now)
   shift_leaves shift.Rol n = rotates_leaves counted.Rol n _ (rol_word s n)
   shift_leaves shift.Ror n = rotates_leaves counted.Ror n _ (ror_word s n)
 

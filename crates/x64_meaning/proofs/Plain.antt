@@ -15,7 +15,7 @@ use Rattle.x64_meaning.specs.State.{State, reg, flag, read}
 use Rattle.x64_meaning.specs.Exp.{Exp, Before, W64, Bin, exp_value, no_words}
 use Rattle.x64_meaning.specs.Table.{sum, is_set, holds, scaled_of, address_of}
 use Rattle.x64_meaning.specs.Run.{address, cond_holds}
-use Rattle.x64_meaning.specs.Steps.{is_one, flags_meet, index_part, address_sum, Fits}
+use Rattle.x64_meaning.specs.inner.Steps.{is_one, flags_meet, index_part, address_sum, Fits}
 use Rattle.x64_meaning.proofs.Numbers.{addressed, word_of-lt}
 use Rattle.x64_meaning.proofs.Parts.{IsWord, IsTruth, constant, sum_word, product_word, set_is}
 

@@ -20,9 +20,9 @@ use Rattle.term_core.specs.Value.{Val, Word, Truth, cast, val_eq, Assignment, va
 use Rattle.x64_meaning.specs.State.{State, IsState, place_sort, read, reg}
 use Rattle.x64_meaning.specs.Exp.{Exp, no_words, exp_value, exp_term, among}
 use Rattle.x64_meaning.specs.Table.{Equation, equations, writes, reads, apply, in_order}
-use Rattle.x64_meaning.specs.Run.{access, operand_access, moved, first_undefined, with_access, with_flags, does, Done, Way, start, next_way, Ended, follow, ins_step, item_step, run, StandAt}
+use Rattle.x64_meaning.specs.Run.{access, operand_access, after_stack, first_undefined, with_access, with_flags, does, Done, Way, start, next_way, Ended, follow, ins_step, item_step, run, StandAt}
 use Rattle.x64_meaning.specs.Contract.{Contract, Worth, Post, Frame, Meets, SameRuns}
-use Rattle.x64_meaning.specs.Condition.{no_terms, no_functions, uses_stack, Versions, version, version_name, next_versions, hypothesis, hypotheses, end_versions, first_versions, straight_hyps, straight_goal, is_plain, unwritten, straight_items, StraightFits, Names, IsNamed}
+use Rattle.x64_meaning.specs.Condition.{no_terms, no_functions, uses_stack, Versions, version, version_name, next_versions, hypothesis, hypotheses, end_versions, first_versions, straight_hyps, straight_goal, is_plain, keeps_place, straight_items, StraightFits, Names, IsNamed}
 use Rattle.term_core.proofs.Values.{val_eq_same}
 use Rattle.x64_meaning.proofs.Reading.{read-sorted}
 use Rattle.x64_meaning.proofs.Standing.{stands_behind}
@@ -183,7 +183,7 @@ operand_alone s (Push r) h = absurd (false≢true (sym h))
 operand_alone s (Pop d) h = absurd (false≢true (sym h))
 operand_alone s _ h = refl
 
-not_moved : (i : Ins) (s : State) → uses_stack i ≡ false → moved i s ≡ s
+not_moved : (i : Ins) (s : State) → uses_stack i ≡ false → after_stack i s ≡ s
 not_moved (Push r) s h = absurd (false≢true (sym h))
 not_moved (Pop d) s h = absurd (false≢true (sym h))
 not_moved _ s h = refl
@@ -219,10 +219,10 @@ run_straight items (i ∷ is) at w plain has =
     (suc rest.0, rest.1, step ∙ rest.2, rest.3)
 
 -- a place that isn't written is as it was
-unwritten_same : (is : List Ins) (s : State) (p : Place) → unwritten is p ≡ true → read (end_of s is) p ≡ read s p
+unwritten_same : (is : List Ins) (s : State) (p : Place) → keeps_place is p ≡ true → read (end_of s is) p ≡ read s p
 unwritten_same [] s p h = refl
 unwritten_same (i ∷ is) s p h =
-    let b = and_parts (not (among (writes i) p)) (unwritten is p) h in
+    let b = and_parts (not (among (writes i) p)) (keeps_place is p) h in
     unwritten_same is (next s i) p b.1 ∙ apply-other s no_words (equations i) s p (not-true _ b.0)
 
 blocks_same : (is : List Ins) (s : State) → (end_of s is).blocks ≡ s.blocks

@@ -23,7 +23,7 @@ use Rattle.x64_meaning.specs.declared.machine.Fault.{Fault}
 use Rattle.x64_meaning.specs.declared.machine.Fault.TheVariants.{Outside, UndefinedFlag}
 use Rattle.x64_meaning.specs.State.{State, flag, reg, read, write, load}
 use Rattle.x64_meaning.specs.Exp.{Exp, exp_value, no_words}
-use Rattle.x64_meaning.specs.Table.{holds, address_of, equations, stored, load_size, apply, reads}
+use Rattle.x64_meaning.specs.Table.{holds, address_of, equations, stored_words, load_size, apply, reads}
 
 -- the value of an expression over one state
 abbrev pub value_in : State → Exp → Val
@@ -65,10 +65,10 @@ access s (Pop d) = Loads (reg s Rsp) 8
 access s i = operand_access s i (loads_from i) (stores_to i)
 
 -- the stack pointer after an instruction
-abbrev pub moved : Ins → State → State
-moved (Push r) s = write s (Reg Rsp) (Word ((reg s Rsp + (T - 8)) % T))
-moved (Pop d) s = write s (Reg Rsp) (Word ((reg s Rsp + 8) % T))
-moved i s = s
+abbrev pub after_stack : Ins → State → State
+after_stack (Push r) s = write s (Reg Rsp) (Word ((reg s Rsp + (T - 8)) % T))
+after_stack (Pop d) s = write s (Reg Rsp) (Word ((reg s Rsp + 8) % T))
+after_stack i s = s
 
 -- the words of a number, the lowest first
 abbrev pub word_in : ℕ → ℕ → Val
@@ -77,7 +77,7 @@ word_in n (suc k) = word_in (n / T) k
 
 -- the state after, by the words that are loaded
 abbrev pub after : State → (ℕ → Val) → Ins → State
-after s loaded i = moved i (apply s loaded (equations i) s)
+after s loaded i = after_stack i (apply s loaded (equations i) s)
 
 -- the bytes of the words that are stored
 abbrev pub bytes_of : State → List Exp → List ℕ
@@ -95,7 +95,7 @@ with_stored s i a size (Some bs) = Done (record (after s no_words i) { blocks = 
 abbrev pub with_access : State → Ins → Access → Outcome
 with_access s i No = Done (after s no_words i) []
 with_access s i (Loads a size) = with_loaded s i a size (load s a size)
-with_access s i (Stores a) = with_stored s i a (length (bytes_of s (stored i))) (store s.blocks a (bytes_of s (stored i)))
+with_access s i (Stores a) = with_stored s i a (length (bytes_of s (stored_words i))) (store s.blocks a (bytes_of s (stored_words i)))
 
 abbrev pub with_flags : State → Ins → Option FlagName → Outcome
 with_flags s i (Some f) = Faulted (UndefinedFlag f)

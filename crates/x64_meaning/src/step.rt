@@ -10,7 +10,8 @@ ghost use Rattle.x64_blocks.specs.Memory.{store};
 ghost use Rattle.term_core.specs.Value.{T, word_of};
 ghost use Rattle.x64_meaning.specs.State.{flag, load};
 ghost use Rattle.x64_meaning.specs.Run.{is_undefined, address, access, with_access, does, cond_holds, first_undefined};
-ghost use Rattle.x64_meaning.specs.Steps.{flags_meet, address_sum, loaded, sourced, taken, computed, Fits, is_general, defined_flag, defined, Puts, Acts, Steps, Foresees, WouldPut};
+ghost use Rattle.x64_meaning.specs.Table.{is_general};
+ghost use Rattle.x64_meaning.specs.inner.Steps.{flags_meet, address_sum, load_result, source_word, input_word, effect, Fits, read_flag_fault, flag_fault, Puts, Acts, Steps, Foresees, WouldPut};
 
 use crate::arithmetic::{
     add_with, alu, is_set, multiply, multiply_apart, multiply_wide, one, shift,
@@ -47,7 +48,7 @@ fn address(m: &Machine, mem: &Mem) -> u64
 
 // The word at an address, and the access.
 fn load(m: &Machine, address: u64) -> Result<(u64, Option<Obs>), Fault>
-    ensures { result ≡ loaded address (load m.now address 8) }
+    ensures { result ≡ load_result address (load m.now address 8) }
 {
     let access = Obs::Access {
         address,
@@ -62,7 +63,7 @@ fn load(m: &Machine, address: u64) -> Result<(u64, Option<Obs>), Fault>
 
 // The word of a source, and the access that it took.
 fn source(m: &Machine, s: &Opr) -> Result<(u64, Option<Obs>), Fault>
-    ensures { result ≡ sourced m.now s.now }
+    ensures { result ≡ source_word m.now s.now }
 {
     match s {
         Opr::R(reg) => Ok((m.regs[reg.number()], None)),
@@ -73,7 +74,7 @@ fn source(m: &Machine, s: &Opr) -> Result<(u64, Option<Obs>), Fault>
 
 // The word that an instruction takes in beside its registers, and the access that this needs.
 fn taken(m: &Machine, ins: &Ins) -> Result<(u64, Option<Obs>), Fault>
-    ensures value { result ≡ taken m.now ins.now }
+    ensures value { result ≡ input_word m.now ins.now }
     ensures fits { Fits m.now }
     ensures word { IfOk result (λ r. r.0 < T) }
 {
@@ -94,7 +95,7 @@ fn taken(m: &Machine, ins: &Ins) -> Result<(u64, Option<Obs>), Fault>
 // Computes what an instruction leaves in registers and flags, from what it took in.
 fn compute(m: &mut Machine, ins: &Ins, word: u64)
     requires { is_ok (form_of ins.now) ≡ true }
-    ensures { m.new ≡ computed ins.now m.old word }
+    ensures { m.new ≡ effect ins.now m.old word }
 {
     match ins {
         Ins::Mov { d, .. } => m.regs[d.number()] = word,
@@ -215,7 +216,7 @@ pub fn open_flag(m: &Machine, c: Cond) -> Option<FlagName>
 }
 
 fn is_defined(m: &Machine, ins: &Ins, flag: FlagName) -> Result<(), Fault>
-    ensures { result ≡ defined_flag (λ f. is_among (read_places ins.now) (place.Flag f)) m.now flag }
+    ensures { result ≡ read_flag_fault (λ f. is_among (read_places ins.now) (place.Flag f)) m.now flag }
 {
     if reads_of(ins).contains(Place::Flag(flag)) && is_open(m, flag) {
         return Err(Fault::UndefinedFlag { flag });
@@ -225,7 +226,7 @@ fn is_defined(m: &Machine, ins: &Ins, flag: FlagName) -> Result<(), Fault>
 
 // Whether the flags that an instruction reads are defined; else the first that isn't.
 fn are_defined(m: &Machine, ins: &Ins) -> Result<(), Fault>
-    ensures { result ≡ defined (first_undefined (λ f. is_among (read_places ins.now) (place.Flag f)) m.now) }
+    ensures { result ≡ flag_fault (first_undefined (λ f. is_among (read_places ins.now) (place.Flag f)) m.now) }
 {
     is_defined(m, ins, FlagName::Cf)?;
     is_defined(m, ins, FlagName::Zf)?;

@@ -1,6 +1,6 @@
 use Rattle.std.proofs.Common.{◌≡◌, subst, arith}
 use Rattle.x64_evaluator.specs.StateFile.{setting_text}
-use Rattle.x64_evaluator.specs.Setting.{Takes}
+use Rattle.x64_evaluator.specs.inner.Setting.{Takes}
 use Rattle.x64_evaluator.proofs.Reading.{one_more, stops}
 use Rattle.x64_evaluator.proofs.state.read_state.Goals as goal
 
