@@ -9,7 +9,7 @@ use Rattle.x64_syntax.specs.Code.{Prog, Done, Step, If, Loop}
 use Rattle.x64_meaning.specs.Run.{Way, Outcome, does}
 use Rattle.x64_meaning.specs.Run as machine
 use Rattle.code_lower.specs.Lowered.{compare}
-use Rattle.code_lower.specs.Guarded.{Course, Ended, Faulted, OutOfTurns, then_, guarded_step, goes_on, stays, passed, jumped, tested, test, arms, back, turns, guarded}
+use Rattle.code_lower.specs.Guarded.{Course, Ended, Faulted, OutOfTurns, then_, guarded_step, goes_on, stays, way_past, way_of_jump, test_course, test, arms, back, turns, guarded_run}
 use Rattle.code_lower.specs.Keeps.{later}
 
 -- the same course a step later
@@ -41,32 +41,32 @@ step_later stack i block w = by_stays (stays stack w.state i block)
     by_stays true = by_outcome (does i w.state)
     by_stays false = refl
 
-tested_later : (stack : ℕ) (c : Cmp) (l : GeneralReg) (r : Opr) (next : Bool → Way → Course) → ((b : Bool) → Alike (next b)) → Alike (tested stack c l r next)
+tested_later : (stack : ℕ) (c : Cmp) (l : GeneralReg) (r : Opr) (next : Bool → Way → Course) → ((b : Bool) → Alike (next b)) → Alike (test_course stack c l r next)
 tested_later stack c l r next a w =
     ap (λ d. then_ d (next (test c l r w.state))) (step_later stack (compare l r) _ w) ∙ then_later _ _ (a (test c l r w.state))
 
 arms_later : (first second : Way → Course) → Alike first → Alike second → (b : Bool) → Alike (arms first second b)
-arms_later first second a b true w = one_then (λ v. first (jumped false v)) _ (λ v. a (jumped false v)) (λ v. refl) w
-arms_later first second a b false w = one_then (λ v. second (passed (jumped true v))) _ (λ v. b (passed (jumped true v))) (λ v. refl) w
+arms_later first second a b true w = one_then (λ v. first (way_of_jump false v)) _ (λ v. a (way_of_jump false v)) (λ v. refl) w
+arms_later first second a b false w = one_then (λ v. second (way_past (way_of_jump true v))) _ (λ v. b (way_past (way_of_jump true v))) (λ v. refl) w
 
 back_later : (again : Way → Course) → Alike again → (b : Bool) → Alike (back again b)
-back_later again a true w = a (jumped true w)
+back_later again a true w = a (way_of_jump true w)
 back_later again a false w = refl
 
-turns_later : (stack : ℕ) (c : Cmp) (l : GeneralReg) (r : Opr) (body : Way → Course) → Alike body → (m : ℕ) → Alike (turns (tested stack c l r) body m)
-turns_later stack c l r body a zero w = tested_later stack c l r _ (back_later (λ v. OutOfTurns) (λ v. refl)) (passed w)
+turns_later : (stack : ℕ) (c : Cmp) (l : GeneralReg) (r : Opr) (body : Way → Course) → Alike body → (m : ℕ) → Alike (turns (test_course stack c l r) body m)
+turns_later stack c l r body a zero w = tested_later stack c l r _ (back_later (λ v. OutOfTurns) (λ v. refl)) (way_past w)
 turns_later stack c l r body a (suc m) w =
-    tested_later stack c l r _ (back_later _ (one_then (λ v. body (passed v)) _ (λ v. a (passed v)) (turns_later stack c l r body a m))) (passed w)
+    tested_later stack c l r _ (back_later _ (one_then (λ v. body (way_past v)) _ (λ v. a (way_past v)) (turns_later stack c l r body a m))) (way_past w)
 
-pub guarded_later : (stack n : ℕ) (p : Prog) → Alike (guarded stack n p)
+pub guarded_later : (stack n : ℕ) (p : Prog) → Alike (guarded_run stack n p)
 guarded_later stack n Done w = refl
-guarded_later stack n (Step i block p) w = one_then (guarded_step stack i block) (guarded stack n p) (step_later stack i block) (guarded_later stack n p) w
+guarded_later stack n (Step i block p) w = one_then (guarded_step stack i block) (guarded_run stack n p) (step_later stack i block) (guarded_later stack n p) w
 guarded_later stack n (If c l r first second p) w =
-    one_then (tested stack c l r (arms (guarded stack n first) (guarded stack n second))) (guarded stack n p)
+    one_then (test_course stack c l r (arms (guarded_run stack n first) (guarded_run stack n second))) (guarded_run stack n p)
     (tested_later stack c l r _ (arms_later _ _ (guarded_later stack n first) (guarded_later stack n second))) (guarded_later stack n p) w
 guarded_later stack n (Loop c l r body p) w =
-    one_then (λ v. turns (tested stack c l r) (guarded stack n body) n (passed v)) (guarded stack n p)
-    (λ v. turns_later stack c l r _ (guarded_later stack n body) n (passed v)) (guarded_later stack n p) w
+    one_then (λ v. turns (test_course stack c l r) (guarded_run stack n body) n (way_past v)) (guarded_run stack n p)
+    (λ v. turns_later stack c l r _ (guarded_later stack n body) n (way_past v)) (guarded_later stack n p) w
 
 -- where the one ends, the other ends alike
 abbrev Ends : Course → Course → Type 0
@@ -83,32 +83,32 @@ then_ends OutOfTurns d f g a b v h = absurd cc
 same_ends : (c : Course) → Ends c c
 same_ends c v h = h
 
-tested_ends : (stack : ℕ) (c : Cmp) (l : GeneralReg) (r : Opr) (f g : Bool → Way → Course) → ((b : Bool) → EndsFrom (f b) (g b)) → EndsFrom (tested stack c l r f) (tested stack c l r g)
+tested_ends : (stack : ℕ) (c : Cmp) (l : GeneralReg) (r : Opr) (f g : Bool → Way → Course) → ((b : Bool) → EndsFrom (f b) (g b)) → EndsFrom (test_course stack c l r f) (test_course stack c l r g)
 tested_ends stack c l r f g a w = then_ends _ _ _ _ (same_ends _) (a (test c l r w.state))
 
 arms_ends : (f g h k : Way → Course) → EndsFrom f g → EndsFrom h k → (b : Bool) → EndsFrom (arms f h b) (arms g k b)
-arms_ends f g h k a b true w = then_ends _ _ _ _ (a (jumped false w)) (λ v. same_ends _)
-arms_ends f g h k a b false w = then_ends _ _ _ _ (b (passed (jumped true w))) (λ v. same_ends _)
+arms_ends f g h k a b true w = then_ends _ _ _ _ (a (way_of_jump false w)) (λ v. same_ends _)
+arms_ends f g h k a b false w = then_ends _ _ _ _ (b (way_past (way_of_jump true w))) (λ v. same_ends _)
 
 back_ends : (f g : Way → Course) → EndsFrom f g → (b : Bool) → EndsFrom (back f b) (back g b)
-back_ends f g a true w = a (jumped true w)
+back_ends f g a true w = a (way_of_jump true w)
 back_ends f g a false w = same_ends _
 
 never_ends : (c : Course) → Ends OutOfTurns c
 never_ends c v h = absurd cc
 
-turns_ends : (stack : ℕ) (c : Cmp) (l : GeneralReg) (r : Opr) (f g : Way → Course) → EndsFrom f g → (m n : ℕ) → m ≤ n → EndsFrom (turns (tested stack c l r) f m) (turns (tested stack c l r) g n)
+turns_ends : (stack : ℕ) (c : Cmp) (l : GeneralReg) (r : Opr) (f g : Way → Course) → EndsFrom f g → (m n : ℕ) → m ≤ n → EndsFrom (turns (test_course stack c l r) f m) (turns (test_course stack c l r) g n)
 turns_ends stack c l r f g a zero zero le w =
-    tested_ends stack c l r _ _ (back_ends (λ v. OutOfTurns) (λ v. OutOfTurns) (λ v. never_ends _)) (passed w)
+    tested_ends stack c l r _ _ (back_ends (λ v. OutOfTurns) (λ v. OutOfTurns) (λ v. never_ends _)) (way_past w)
 turns_ends stack c l r f g a zero (suc n) le w =
     tested_ends stack c l r _ _
-    (back_ends (λ v. OutOfTurns) (λ v. then_ (g (passed v)) (turns (tested stack c l r) g n)) (λ v. never_ends _)) (passed w)
+    (back_ends (λ v. OutOfTurns) (λ v. then_ (g (way_past v)) (turns (test_course stack c l r) g n)) (λ v. never_ends _)) (way_past w)
 turns_ends stack c l r f g a (suc m) zero le w = absurd (omega (arith, le))
 turns_ends stack c l r f g a (suc m) (suc n) le w =
     tested_ends stack c l r _ _
-    (back_ends _ _ (λ v. then_ends _ _ _ _ (a (passed v)) (turns_ends stack c l r f g a m n (omega (arith, le))))) (passed w)
+    (back_ends _ _ (λ v. then_ends _ _ _ _ (a (way_past v)) (turns_ends stack c l r f g a m n (omega (arith, le))))) (way_past w)
 
-pub more_turns_end : (stack m n : ℕ) (p : Prog) → m ≤ n → EndsFrom (guarded stack m p) (guarded stack n p)
+pub more_turns_end : (stack m n : ℕ) (p : Prog) → m ≤ n → EndsFrom (guarded_run stack m p) (guarded_run stack n p)
 more_turns_end stack m n Done le w = same_ends _
 more_turns_end stack m n (Step i block p) le w = then_ends _ _ _ _ (same_ends _) (more_turns_end stack m n p le)
 more_turns_end stack m n (If c l r first second p) le w =
@@ -116,4 +116,4 @@ more_turns_end stack m n (If c l r first second p) le w =
     (tested_ends stack c l r _ _ (arms_ends _ _ _ _ (more_turns_end stack m n first le) (more_turns_end stack m n second le)) w)
     (more_turns_end stack m n p le)
 more_turns_end stack m n (Loop c l r body p) le w =
-    then_ends _ _ _ _ (turns_ends stack c l r _ _ (more_turns_end stack m n body le) m n le (passed w)) (more_turns_end stack m n p le)
+    then_ends _ _ _ _ (turns_ends stack c l r _ _ (more_turns_end stack m n body le) m n le (way_past w)) (more_turns_end stack m n p le)

@@ -21,9 +21,10 @@ use Rattle.x64_meaning.specs.declared.machine.Flag.{Flag as FlagValue}
 use Rattle.x64_meaning.specs.declared.machine.Flag.TheVariants.{Undefined}
 use Rattle.x64_meaning.specs.State.{State, read, flag, flag_from}
 use Rattle.x64_meaning.specs.Exp.{no_words}
-use Rattle.x64_meaning.specs.Steps.{flag_if}
-use Rattle.x64_meaning.specs.Run.{Done, does, after, is_undefined, is_one, cond_holds}
+use Rattle.x64_meaning.specs.inner.Steps.{flag_if, is_one, flags_meet}
+use Rattle.x64_meaning.specs.Run.{Done, does, after, is_undefined, cond_holds}
 use Rattle.x64_meaning.proofs.Numbers.{word_of-lt}
+use Rattle.x64_meaning.proofs.Plain.{cond_by_flags}
 use Rattle.code_lower.specs.Lowered.{compare, when, unless}
 use Rattle.code_lower.specs.Guarded.{compares, operand, stays}
 use Rattle.code_lower.proofs.Flags.{Four}
@@ -128,21 +129,27 @@ module _ (s : State) (a b : ℕ) (t : Tell s a b) where
   none : (not (is_one (flag s Cf)) && not (is_one (flag s Zf))) ≡ not (nat_le a b)
   none = neither (is_one (flag s Cf)) (is_one (flag s Zf)) ∙ ap not either
 
+  met : (c : Cmp) → flags_meet (when c) s ≡ compares c a b
+  met cmp.Eq = zf
+  met cmp.Ne = ap not zf
+  met cmp.Lt = cf
+  met cmp.Le = either
+  met cmp.Gt = none ∙ ap not (at_least b a) ∙ not_not (nat_lt b a)
+  met cmp.Ge = ap not cf ∙ sym (at_least a b)
+
+  not_met : (c : Cmp) → flags_meet (unless c) s ≡ not (compares c a b)
+  not_met cmp.Eq = ap not zf
+  not_met cmp.Ne = zf ∙ sym (not_not (a == b))
+  not_met cmp.Lt = ap not cf
+  not_met cmp.Le = none
+  not_met cmp.Gt = either ∙ at_least b a
+  not_met cmp.Ge = cf ∙ sym (not_not (nat_lt a b)) ∙ ap not (sym (at_least a b))
+
   pub taken : (c : Cmp) → cond_holds (when c) s ≡ compares c a b
-  taken cmp.Eq = zf
-  taken cmp.Ne = ap not zf
-  taken cmp.Lt = cf
-  taken cmp.Le = either
-  taken cmp.Gt = none ∙ ap not (at_least b a) ∙ not_not (nat_lt b a)
-  taken cmp.Ge = ap not cf ∙ sym (at_least a b)
+  taken c = cond_by_flags s (when c) ∙ met c
 
   pub not_taken : (c : Cmp) → cond_holds (unless c) s ≡ not (compares c a b)
-  not_taken cmp.Eq = ap not zf
-  not_taken cmp.Ne = zf ∙ sym (not_not (a == b))
-  not_taken cmp.Lt = ap not cf
-  not_taken cmp.Le = none
-  not_taken cmp.Gt = either ∙ at_least b a
-  not_taken cmp.Ge = cf ∙ sym (not_not (nat_lt a b)) ∙ ap not (sym (at_least a b))
+  not_taken c = cond_by_flags s (unless c) ∙ not_met c
 
 -- the first two of four flags that are set in order
 first_flags : (fs : List FlagValue) (c z n o : FlagValue) → length fs ≡ 4 → (slice_index_or (slice_set (slice_set (slice_set (slice_set fs 0 c) 1 z) 2 n) 3 o) 0 Undefined ≡ c) × (slice_index_or (slice_set (slice_set (slice_set (slice_set fs 0 c) 1 z) 2 n) 3 o) 1 Undefined ≡ z)

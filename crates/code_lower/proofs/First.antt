@@ -2,12 +2,12 @@
 use Rattle.std.proofs.Common.{◌≡◌, ℕ, zero, suc, ◌+◌, ◌<◌, ◌≤◌, Bool, true, false, not, List, [], ◌∷◌, length, refl, sym, ap, ◌∙◌, arith, cond, ◌⊎◌, inl, inr, leb}
 use Rattle.std.specs.Prelude.{◌==◌, ◌≢◌, Some, None, slice_get, nat_lt, position}
 use Rattle.std.specs.List.{position_or_len}
-use Rattle.std.proofs.lemmas.Bool.{lt-ltb, false≢true, and_parts, leb-true}
+use Rattle.std.proofs.lemmas.Bool.{lt-ltb, le-leb, false≢true, and_parts, and_from, leb-true}
 use Rattle.std.proofs.lemmas.Bool.Decides.{leb_tells, eqb_tells}
 use Rattle.std.proofs.lemmas.List.{get_or_past}
 use Rattle.std.proofs.lemmas.Option.{get_or_from_slice_get, slice_get-get_or, same_Some}
-use Rattle.x64_blocks.specs.Memory.{Range, holds}
-use Rattle.x64_meaning.specs.State.{State, IsState, Covers, block_at}
+use Rattle.x64_blocks.specs.Memory.{Range, holds, block_at}
+use Rattle.x64_meaning.specs.State.{State, IsState}
 use Rattle.code_lower.specs.Guarded.{is_at}
 
 -- the first place at which it passes
@@ -85,41 +85,45 @@ module _ {X : Type 0} (p : X → Bool) where
   position_none xs f =
       ap (λ n. cond (nat_lt n (length xs)) (Some n) None) f.none ∙ ap (λ b. cond b (Some (length xs)) None) (below_itself (length xs))
 
--- a block that holds an access covers its first byte
-covers : (a size : ℕ) (b : Range) → 0 < size → holds a size b ≡ true → Covers b a
-covers a size b some_ h =
+-- a block that holds an access holds its first byte
+first_byte : (a size : ℕ) (b : Range) → 0 < size → holds a size b ≡ true → holds a 1 b ≡ true
+first_byte a size b some_ h =
     let p = and_parts (leb b.base a) (leb (a + size) (b.base + length b.bytes)) h in
     let end = leb-true (a + size) (b.base + length b.bytes) p.1 in
-    record { from = leb-true b.base a p.0; below = omega (arith, end, some_) }
+    and_from _ _ p.0 (le-leb (a + 1) (b.base + length b.bytes) (omega (arith, end, some_)))
+
+none_in_none : (a size : ℕ) → 0 < size → holds a size (record { base = 0; bytes = [] }) ≡ true → ⊥
+none_in_none a size some_ h =
+    let end = leb-true (a + size) 0 (and_parts (leb 0 a) (leb (a + size) 0) h).1 in
+    omega (arith, end, some_)
 
 -- in a state of the machine the first block that holds an access is the only one
-pub named_block : (s : State) (k a size : ℕ) → IsState s → 0 < size → is_at k (position (holds a size) s.blocks) ≡ holds a size (block_at s k)
+pub named_block : (s : State) (k a size : ℕ) → IsState s → 0 < size → is_at k (position (holds a size) s.blocks) ≡ holds a size (block_at s.blocks k)
 named_block s k a size ok some_ = by_first (first (holds a size) s.blocks)
   where
-    at_other : (j : ℕ) (b : Range) → slice_get s.blocks j ≡ Some b → holds a size b ≡ true → (x : Bool) → holds a size (block_at s k) ≡ x → (((j == k) ≡ true) × (j ≡ k)) ⊎ (((j == k) ≡ false) × (j ≢ k)) → (j == k) ≡ x
+    at_other : (j : ℕ) (b : Range) → slice_get s.blocks j ≡ Some b → holds a size b ≡ true → (x : Bool) → holds a size (block_at s.blocks k) ≡ x → (((j == k) ≡ true) × (j ≡ k)) ⊎ (((j == k) ≡ false) × (j ≢ k)) → (j == k) ≡ x
     at_other j b here h true e t =
         let c = ap (λ r. holds a size r) (get_or_from_slice_get s.blocks j b _ here) ∙ h in
-        let same = ok.apart a j k (covers a size (block_at s j) some_ c) (covers a size (block_at s k) some_ e) in
+        let same = ok.blocks.apart a j k (first_byte a size (block_at s.blocks j) some_ c) (first_byte a size (block_at s.blocks k) some_ e) in
         by_tell t same
       where
         by_tell : (((j == k) ≡ true) × (j ≡ k)) ⊎ (((j == k) ≡ false) × (j ≢ k)) → j ≡ k → (j == k) ≡ true
         by_tell (inl p) same = p.0
         by_tell (inr p) same = absurd (p.1 same)
     at_other j b here h false e (inl t) =
-        absurd (false≢true (sym e ∙ ap (λ n. holds a size (block_at s n)) (sym t.1) ∙ ap (λ r. holds a size r) (get_or_from_slice_get s.blocks j b _ here) ∙ h))
+        absurd (false≢true (sym e ∙ ap (λ n. holds a size (block_at s.blocks n)) (sym t.1) ∙ ap (λ r. holds a size r) (get_or_from_slice_get s.blocks j b _ here) ∙ h))
     at_other j b here h false e (inr t) = t.0
 
-    nowhere : Fails (holds a size) s.blocks → (x : Bool) → holds a size (block_at s k) ≡ x → false ≡ x
+    nowhere : Fails (holds a size) s.blocks → (x : Bool) → holds a size (block_at s.blocks k) ≡ x → false ≡ x
     nowhere f false e = refl
     nowhere f true e = by_range (leb_tells (suc k) (length s.blocks))
       where
         by_range : ((leb (suc k) (length s.blocks) ≡ true) × (suc k ≤ length s.blocks)) ⊎ ((leb (suc k) (length s.blocks) ≡ false) × (length s.blocks < suc k)) → false ≡ true
-        by_range (inl p) = sym (f.each k (block_at s k) (slice_get-get_or s.blocks k _ (let le = p.1 in omega (arith, le)))) ∙ e
+        by_range (inl p) = sym (f.each k (block_at s.blocks k) (slice_get-get_or s.blocks k _ (let le = p.1 in omega (arith, le)))) ∙ e
         by_range (inr p) =
-            let past : block_at s k ≡ record { base = 0; bytes = [] } = get_or_past s.blocks k _ (let lt = p.1 in omega (arith, lt)) in
-            let c = (covers a size (record { base = 0; bytes = [] }) some_ (ap (λ r. holds a size r) (sym past) ∙ e)).below in
-            absurd (omega (arith, c))
+            let past : block_at s.blocks k ≡ record { base = 0; bytes = [] } = get_or_past s.blocks k _ (let lt = p.1 in omega (arith, lt)) in
+            absurd (none_in_none a size some_ (ap (λ r. holds a size r) (sym past) ∙ e))
 
-    by_first : Passes (holds a size) s.blocks ⊎ Fails (holds a size) s.blocks → is_at k (position (holds a size) s.blocks) ≡ holds a size (block_at s k)
-    by_first (inl f) = ap (is_at k) (position_is (holds a size) s.blocks f) ∙ at_other f.at f.item f.here f.passes (holds a size (block_at s k)) refl (eqb_tells f.at k)
-    by_first (inr f) = ap (is_at k) (position_none (holds a size) s.blocks f) ∙ nowhere f (holds a size (block_at s k)) refl
+    by_first : Passes (holds a size) s.blocks ⊎ Fails (holds a size) s.blocks → is_at k (position (holds a size) s.blocks) ≡ holds a size (block_at s.blocks k)
+    by_first (inl f) = ap (is_at k) (position_is (holds a size) s.blocks f) ∙ at_other f.at f.item f.here f.passes (holds a size (block_at s.blocks k)) refl (eqb_tells f.at k)
+    by_first (inr f) = ap (is_at k) (position_none (holds a size) s.blocks f) ∙ nowhere f (holds a size (block_at s.blocks k)) refl

@@ -12,8 +12,8 @@ use Rattle.x64_blocks.specs.Memory.{Range, store}
 use Rattle.term_core.specs.Value.{Val, whole}
 use Rattle.x64_meaning.specs.State.{State, write, load, flag_from}
 use Rattle.x64_meaning.specs.Exp.{no_words}
-use Rattle.x64_meaning.specs.Table.{Equation, apply, equations, reads, stored}
-use Rattle.x64_meaning.specs.Run.{Outcome, Done, Faulted, Access, No, Loads, Stores, does, with_flags, with_access, with_loaded, with_stored, moved, access, first_undefined, word_in, bytes_of}
+use Rattle.x64_meaning.specs.Table.{Equation, apply, equations, reads, stored_words}
+use Rattle.x64_meaning.specs.Run.{Outcome, Done, Faulted, Access, No, Loads, Stores, does, with_flags, with_access, with_loaded, with_stored, after_stack, access, first_undefined, word_in, bytes_of}
 
 abbrev pub Four : State → Type 0
 Four s = length s.flags ≡ 4
@@ -27,7 +27,7 @@ apply_four : (before : State) (loaded : ℕ → Val) (es : List Equation) (now :
 apply_four before loaded [] now h = h
 apply_four before loaded (e ∷ es) now h = apply_four before loaded es _ (write_four now e.place _ h)
 
-moved_four : (i : Ins) (s : State) → Four s → Four (moved i s)
+moved_four : (i : Ins) (s : State) → Four s → Four (after_stack i s)
 moved_four (Push r) s h = h
 moved_four (Pop d) s h = h
 moved_four _ s h = h
@@ -37,7 +37,7 @@ LeavesFour (Done s seen) = Four s
 LeavesFour (Faulted f) = Unit {0}
 
 module _ (i : Ins) (s : State) (h : Four s) where
-  after_four : (loaded : ℕ → Val) → Four (moved i (apply s loaded (equations i) s))
+  after_four : (loaded : ℕ → Val) → Four (after_stack i (apply s loaded (equations i) s))
   after_four loaded = moved_four i _ (apply_four s loaded (equations i) s h)
 
   by_load : (a size : ℕ) (o : Option ℕ) → LeavesFour (with_loaded s i a size o)
@@ -51,7 +51,7 @@ module _ (i : Ins) (s : State) (h : Four s) where
   by_access : (x : Access) → LeavesFour (with_access s i x)
   by_access No = after_four no_words
   by_access (Loads a size) = by_load a size (load s a size)
-  by_access (Stores a) = by_store a (length (bytes_of s (stored i))) (store s.blocks a (bytes_of s (stored i)))
+  by_access (Stores a) = by_store a (length (bytes_of s (stored_words i))) (store s.blocks a (bytes_of s (stored_words i)))
 
   by_flag : (o : Option FlagName) → LeavesFour (with_flags s i o)
   by_flag None = by_access (access s i)

@@ -11,12 +11,13 @@ use Rattle.x64_syntax.specs.declared.instructions.Ins.{Ins}
 use Rattle.x64_syntax.specs.declared.items.Item.{Item}
 use Rattle.x64_syntax.specs.declared.items.Item.TheVariants as item
 use Rattle.x64_syntax.specs.Instructions.{cond_flags}
+use Rattle.x64_meaning.specs.declared.machine.Obs.TheVariants.{Branch}
 use Rattle.x64_meaning.specs.State.{State, flag}
 use Rattle.x64_meaning.specs.Exp.{no_words}
-use Rattle.x64_meaning.specs.Run.{Way, stepped, Outcome, does, after, after_does, at_label, is_label, is_undefined, cond_holds, branch, run, act, Running, StandAt}
+use Rattle.x64_meaning.specs.Run.{Way, next_way, Outcome, does, after, follow, ins_step, label_step, branch_step, item_step, is_label, is_undefined, cond_holds, run, Running, StandAt}
 use Rattle.x64_meaning.specs.Run as machine
 use Rattle.code_lower.specs.Lowered.{compare, when, unless}
-use Rattle.code_lower.specs.Guarded.{Course, Ended, Faulted, OutOfTurns, then_, guarded_step, goes_on, stays, passed, jumped, tested, test}
+use Rattle.code_lower.specs.Guarded.{Course, Ended, Faulted, OutOfTurns, then_, guarded_step, goes_on, stays, way_past, way_of_jump, test_course, test}
 use Rattle.code_lower.specs.Keeps.{LabelsDiffer}
 use Rattle.code_lower.proofs.Flags.{Four, LeavesFour, does_four}
 use Rattle.code_lower.proofs.First.{Passes, Fails, first, position_is}
@@ -131,37 +132,37 @@ module _ (items : List Item) where
   }
 
   -- an item that does nothing, and a jump
-  pub pass_label : (pos l : ℕ) (w : Way) → slice_get items pos ≡ Some (item.Label l) → Leads pos w (pos + 1) (passed w)
-  pass_label pos l w h = one_step pos w (pos + 1) (passed w) (λ k. ap (λ o. act items o (run items k) pos w) h) refl
+  pub pass_label : (pos l : ℕ) (w : Way) → slice_get items pos ≡ Some (item.Label l) → Leads pos w (pos + 1) (way_past w)
+  pass_label pos l w h = one_step pos w (pos + 1) (way_past w) (λ k. ap (λ o. follow w (item_step items o pos w.state) (run items k)) h) refl
 
-  pub pass_entry : (pos : ℕ) (name : List ℕ) (w : Way) → slice_get items pos ≡ Some (item.Entry name) → Leads pos w (pos + 1) (passed w)
-  pass_entry pos name w h = one_step pos w (pos + 1) (passed w) (λ k. ap (λ o. act items o (run items k) pos w) h) refl
+  pub pass_entry : (pos : ℕ) (name : List ℕ) (w : Way) → slice_get items pos ≡ Some (item.Entry name) → Leads pos w (pos + 1) (way_past w)
+  pass_entry pos name w h = one_step pos w (pos + 1) (way_past w) (λ k. ap (λ o. follow w (item_step items o pos w.state) (run items k)) h) refl
 
-  pub jump : (pos l q : ℕ) (w : Way) → slice_get items pos ≡ Some (item.Jmp l) → position (is_label l) items ≡ Some q → Leads pos w q (passed w)
+  pub jump : (pos l q : ℕ) (w : Way) → slice_get items pos ≡ Some (item.Jmp l) → position (is_label l) items ≡ Some q → Leads pos w q (way_past w)
   jump pos l q w h there =
-      one_step pos w q (passed w) (λ k. ap (λ o. act items o (run items k) pos w) h ∙ ap (λ o. at_label o (run items k) (passed w)) there) refl
+      one_step pos w q (way_past w) (λ k. ap (λ o. follow w (item_step items o pos w.state) (run items k)) h ∙ ap (λ o. follow w (label_step o w.state []) (run items k)) there) refl
 
   -- a conditional jump whose flags are defined
-  pub branch_taken : (pos l q : ℕ) (c : Cond) (w : Way) → slice_get items pos ≡ Some (item.Jcc c l) → find (λ f. is_undefined (flag w.state f)) (cond_flags c) ≡ None → cond_holds c w.state ≡ true → position (is_label l) items ≡ Some q → Leads pos w q (jumped true w)
+  pub branch_taken : (pos l q : ℕ) (c : Cond) (w : Way) → slice_get items pos ≡ Some (item.Jcc c l) → find (λ f. is_undefined (flag w.state f)) (cond_flags c) ≡ None → cond_holds c w.state ≡ true → position (is_label l) items ≡ Some q → Leads pos w q (way_of_jump true w)
   branch_taken pos l q c w h none holds there =
-      one_step pos w q (jumped true w) (λ k.
-      ap (λ o. act items o (run items k) pos w) h
-      ∙ ap (λ o. branch o (cond_holds c w.state) (position (is_label l) items) (run items k) pos w) none
-      ∙ ap (λ b. branch None b (position (is_label l) items) (run items k) pos w) holds
-      ∙ ap (λ o. at_label o (run items k) (jumped true w)) there) refl
+      one_step pos w q (way_of_jump true w) (λ k.
+      ap (λ o. follow w (item_step items o pos w.state) (run items k)) h
+      ∙ ap (λ o. follow w (branch_step o (cond_holds c w.state) (position (is_label l) items) pos w.state) (run items k)) none
+      ∙ ap (λ b. follow w (branch_step None b (position (is_label l) items) pos w.state) (run items k)) holds
+      ∙ ap (λ o. follow w (label_step o w.state (Branch true ∷ [])) (run items k)) there) refl
 
-  pub branch_not_taken : (pos l : ℕ) (c : Cond) (w : Way) → slice_get items pos ≡ Some (item.Jcc c l) → find (λ f. is_undefined (flag w.state f)) (cond_flags c) ≡ None → cond_holds c w.state ≡ false → Leads pos w (pos + 1) (jumped false w)
+  pub branch_not_taken : (pos l : ℕ) (c : Cond) (w : Way) → slice_get items pos ≡ Some (item.Jcc c l) → find (λ f. is_undefined (flag w.state f)) (cond_flags c) ≡ None → cond_holds c w.state ≡ false → Leads pos w (pos + 1) (way_of_jump false w)
   branch_not_taken pos l c w h none holds =
-      one_step pos w (pos + 1) (jumped false w) (λ k.
-      ap (λ o. act items o (run items k) pos w) h
-      ∙ ap (λ o. branch o (cond_holds c w.state) (position (is_label l) items) (run items k) pos w) none
-      ∙ ap (λ b. branch None b (position (is_label l) items) (run items k) pos w) holds) refl
+      one_step pos w (pos + 1) (way_of_jump false w) (λ k.
+      ap (λ o. follow w (item_step items o pos w.state) (run items k)) h
+      ∙ ap (λ o. follow w (branch_step o (cond_holds c w.state) (position (is_label l) items) pos w.state) (run items k)) none
+      ∙ ap (λ b. follow w (branch_step None b (position (is_label l) items) pos w.state) (run items k)) holds) refl
 
   -- an instruction that is done
-  pub does_ins : (pos : ℕ) (i : Ins) (w : Way) (t : State) (seen : List _) → slice_get items pos ≡ Some (item.Ins i) → does i w.state ≡ machine.Done t seen → Leads pos w (pos + 1) (stepped w t seen)
+  pub does_ins : (pos : ℕ) (i : Ins) (w : Way) (t : State) (seen : List _) → slice_get items pos ≡ Some (item.Ins i) → does i w.state ≡ machine.Done t seen → Leads pos w (pos + 1) (next_way w t seen)
   does_ins pos i w t seen h done =
-      one_step pos w (pos + 1) (stepped w t seen) (λ k.
-      ap (λ o. act items o (run items k) pos w) h ∙ ap (λ o. after_does o (run items k) pos w) done) refl
+      one_step pos w (pos + 1) (next_way w t seen) (λ k.
+      ap (λ o. follow w (item_step items o pos w.state) (run items k)) h ∙ ap (λ o. follow w (ins_step o pos) (run items k)) done) refl
 
   pub step_led : (n pos stack : ℕ) (i : Ins) (block : Option ℕ) (w : Way) → slice_get items pos ≡ Some (item.Ins i) → Four w.state → Led n pos w (pos + 1) (guarded_step stack i block w)
   step_led n pos stack i block w h four = by_stays (stays stack w.state i block)
@@ -175,7 +176,7 @@ module _ (items : List Item) where
       by_stays false = tt
 
   -- a comparison, and what follows it by whether the test holds
-  pub test_led : (n pos q stack : ℕ) (c : Cmp) (l : GeneralReg) (r : Opr) (next : Bool → Way → Course) (w : Way) → slice_get items pos ≡ Some (item.Ins (compare l r)) → Four w.state → ((b : Bool) (v : Way) → Four v.state → Decided c b v.state → Led n (pos + 1) v q (next b v)) → Led n pos w q (tested stack c l r next w)
+  pub test_led : (n pos q stack : ℕ) (c : Cmp) (l : GeneralReg) (r : Opr) (next : Bool → Way → Course) (w : Way) → slice_get items pos ≡ Some (item.Ins (compare l r)) → Four w.state → ((b : Bool) (v : Way) → Four v.state → Decided c b v.state → Led n (pos + 1) v q (next b v)) → Led n pos w q (test_course stack c l r next w)
   test_led n pos q stack c l r next w h four rest = by_stays (stays stack w.state (compare l r) None) refl
     where
       t : State
@@ -186,7 +187,7 @@ module _ (items : List Item) where
 
       done_led : Compared w.state t l r → Led n pos w q (then_ (goes_on (does (compare l r) w.state) w) (next b))
       done_led d =
-          let v = stepped w t [] in
+          let v = next_way w t [] in
           let four_t : Four t = subst LeavesFour d.done (does_four (compare l r) w.state four) in
           let decided : Decided c b t = record {
             defined = all_defined t _ _ d.tell;

@@ -16,7 +16,7 @@ use Rattle.x64_syntax.specs.inner.LabelCount.{label_count}
 use Rattle.x64_syntax.proofs.Pieces.{has_within}
 use Rattle.x64_meaning.specs.Run.{StandAt}
 use Rattle.x64_meaning.proofs.Standing.{stands_between}
-use Rattle.code_lower.specs.Lowered.{compare, when, labels, code_items, export_items, lowered_from, lowered}
+use Rattle.code_lower.specs.Lowered.{compare, when, labels, code_items, export_items, lowered_from, lowered_items}
 use Rattle.code_lower.specs.Keeps.{LabelsDiffer, all_labels, names_differ, AreExports}
 
 -- labels of a range
@@ -278,7 +278,7 @@ stray_none k (e ∷ es) h n p =
 at_first : (k : ℕ) (es : List (List ℕ × Prog)) → codes_ok es ≡ true → stray_jump (lowered_from k es) ≡ None
 at_first k es h = stray_none k es h 0 (piece (lowered_from k es))
 
-pub is_program : (es : List (List ℕ × Prog)) → AreExports es → program_ok (lowered es) ≡ true
+pub is_program : (es : List (List ℕ × Prog)) → AreExports es → program_ok (lowered_items es) ≡ true
 is_program es a =
     and_from _ _
     (and_from _ _ (and_from _ _ (begins 0 es) (differ_all 0 es a.codes a.differ))
@@ -338,10 +338,10 @@ split_at k (e ∷ es) fs =
     ∙ ap (λ n. (export_items k e.0 e.1 ++ lowered_from (k + labels e.1) es) ++ lowered_from n fs) (let e : k + labels e.1 + all_labels es ≡ k + (labels e.1 + all_labels es) = omega arith in e)
 
 -- each export stands where those before it end
-pub stands : (front back : List (List ℕ × Prog)) (name : List ℕ) (p : Prog) → StandAt (lowered (front ++ (name, p) ∷ back)) (length (lowered front)) (export_items (all_labels front) name p)
+pub stands : (front back : List (List ℕ × Prog)) (name : List ℕ) (p : Prog) → StandAt (lowered_items (front ++ (name, p) ∷ back)) (length (lowered_items front)) (export_items (all_labels front) name p)
 stands front back name p =
     let k = all_labels front in
     let e : 0 + all_labels front ≡ k = omega arith in
-    let split = split_at 0 front ((name, p) ∷ back) ∙ ap (λ n. lowered front ++ lowered_from n ((name, p) ∷ back)) e in
-    subst (λ l. StandAt l (length (lowered front)) (export_items k name p)) (sym split)
-    (stands_between (lowered front) (export_items k name p) (lowered_from (k + labels p) back))
+    let split = split_at 0 front ((name, p) ∷ back) ∙ ap (λ n. lowered_items front ++ lowered_from n ((name, p) ∷ back)) e in
+    subst (λ l. StandAt l (length (lowered_items front)) (export_items k name p)) (sym split)
+    (stands_between (lowered_items front) (export_items k name p) (lowered_from (k + labels p) back))

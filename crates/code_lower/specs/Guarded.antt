@@ -13,8 +13,8 @@ use Rattle.x64_blocks.specs.Memory.{holds}
 use Rattle.term_core.specs.Value.{word, word_of}
 use Rattle.x64_meaning.specs.declared.machine.Obs.TheVariants.{Branch}
 use Rattle.x64_meaning.specs.State.{State, read}
-use Rattle.x64_meaning.specs.Table.{stored}
-use Rattle.x64_meaning.specs.Run.{Way, stepped, Outcome, does, Access, No, Loads, Stores, access, bytes_of}
+use Rattle.x64_meaning.specs.Table.{stored_words}
+use Rattle.x64_meaning.specs.Run.{Way, next_way, Outcome, does, Access, No, Loads, Stores, access, bytes_of}
 use Rattle.x64_meaning.specs.Run as run
 use Rattle.code_lower.specs.Lowered.{compare}
 
@@ -28,13 +28,13 @@ pub data Course : Type 0 where
 abbrev pub extent : State → Ins → Access → Option (ℕ × ℕ)
 extent s i No = None
 extent s i (Loads a size) = Some (a, size)
-extent s i (Stores a) = Some (a, length (bytes_of s (stored i)))
+extent s i (Stores a) = Some (a, length (bytes_of s (stored_words i)))
 
 -- the block that is named: the operand's, and for PUSH and POP the stack
-abbrev pub named : ℕ → Ins → Option ℕ → Option ℕ
-named stack (Push r) block = Some stack
-named stack (Pop d) block = Some stack
-named stack i block = block
+abbrev pub access_block : ℕ → Ins → Option ℕ → Option ℕ
+access_block stack (Push r) block = Some stack
+access_block stack (Pop d) block = Some stack
+access_block stack i block = block
 
 abbrev pub is_at : ℕ → Option ℕ → Bool
 is_at k None = false
@@ -47,10 +47,10 @@ lies_in s (Some e) None = false
 lies_in s (Some e) (Some k) = is_at k (position (holds e.0 e.1) s.blocks)
 
 abbrev pub stays : ℕ → State → Ins → Option ℕ → Bool
-stays stack s i block = lies_in s (extent s i (access s i)) (named stack i block)
+stays stack s i block = lies_in s (extent s i (access s i)) (access_block stack i block)
 
 abbrev pub goes_on : Outcome → Way → Course
-goes_on (run.Done s seen) w = Ended (stepped w s seen)
+goes_on (run.Done s seen) w = Ended (next_way w s seen)
 goes_on (run.Faulted f) w = Faulted
 
 -- an instruction does what it does, and faults too where its access isn't wholly in the block that is named
@@ -82,37 +82,37 @@ abbrev pub test : Cmp → GeneralReg → Opr → State → Bool
 test c l r s = compares c (word (read s (Reg l))) (operand s r)
 
 -- a step that does nothing: a label, or a jump without a condition
-abbrev pub passed : Way → Way
-passed w = stepped w w.state []
+abbrev pub way_past : Way → Way
+way_past w = next_way w w.state []
 
 -- a conditional jump, taken or not
-abbrev pub jumped : Bool → Way → Way
-jumped taken w = stepped w w.state (Branch taken ∷ [])
+abbrev pub way_of_jump : Bool → Way → Way
+way_of_jump taken w = next_way w w.state (Branch taken ∷ [])
 
 -- a comparison, which leaves its flags, and what follows by whether the test holds
-abbrev pub tested : ℕ → Cmp → GeneralReg → Opr → (Bool → Way → Course) → Way → Course
-tested stack c l r next w = then_ (guarded_step stack (compare l r) None w) (next (test c l r w.state))
+abbrev pub test_course : ℕ → Cmp → GeneralReg → Opr → (Bool → Way → Course) → Way → Course
+test_course stack c l r next w = then_ (guarded_step stack (compare l r) None w) (next (test c l r w.state))
 
 -- where the test holds the first arm, a jump and the last label; else a jump to a label, the second arm and the last label
 abbrev pub arms : (Way → Course) → (Way → Course) → Bool → Way → Course
-arms first second true w = then_ (first (jumped false w)) (λ v. Ended (passed (passed v)))
-arms first second false w = then_ (second (passed (jumped true w))) (λ v. Ended (passed v))
+arms first second true w = then_ (first (way_of_jump false w)) (λ v. Ended (way_past (way_past v)))
+arms first second false w = then_ (second (way_past (way_of_jump true w))) (λ v. Ended (way_past v))
 
 -- a loop jumps back where the test holds, and goes on behind it where it doesn't
 abbrev pub back : (Way → Course) → Bool → Way → Course
-back again true w = again (jumped true w)
-back again false w = Ended (jumped false w)
+back again true w = again (way_of_jump true w)
+back again false w = Ended (way_of_jump false w)
 
 -- a loop from the label of its test on, with so many turns left
 abbrev pub turns : ((Bool → Way → Course) → Way → Course) → (Way → Course) → ℕ → Way → Course
-turns tested body zero w = tested (back (λ v. OutOfTurns)) (passed w)
-turns tested body (suc m) w = tested (back (λ v. then_ (body (passed v)) (turns tested body m))) (passed w)
+turns test_course body zero w = test_course (back (λ v. OutOfTurns)) (way_past w)
+turns test_course body (suc m) w = test_course (back (λ v. then_ (body (way_past v)) (turns test_course body m))) (way_past w)
 
 -- A run of code, each of whose loops takes at most n turns. Steps and observations are those of the code's items.
-abbrev pub guarded : ℕ → ℕ → Prog → Way → Course
-guarded stack n Done w = Ended w
-guarded stack n (Step i block p) w = then_ (guarded_step stack i block w) (guarded stack n p)
-guarded stack n (If c l r first second p) w =
-    then_ (tested stack c l r (arms (guarded stack n first) (guarded stack n second)) w) (guarded stack n p)
-guarded stack n (Loop c l r body p) w =
-    then_ (turns (tested stack c l r) (guarded stack n body) n (passed w)) (guarded stack n p)
+abbrev pub guarded_run : ℕ → ℕ → Prog → Way → Course
+guarded_run stack n Done w = Ended w
+guarded_run stack n (Step i block p) w = then_ (guarded_step stack i block w) (guarded_run stack n p)
+guarded_run stack n (If c l r first second p) w =
+    then_ (test_course stack c l r (arms (guarded_run stack n first) (guarded_run stack n second)) w) (guarded_run stack n p)
+guarded_run stack n (Loop c l r body p) w =
+    then_ (turns (test_course stack c l r) (guarded_run stack n body) n (way_past w)) (guarded_run stack n p)

@@ -10,7 +10,7 @@ use Rattle.x64_meaning.specs.State.{State, IsState}
 use Rattle.x64_meaning.specs.Run.{Way, start}
 use Rattle.x64_meaning.specs.Contract.{Contract, Pre, Post, Frame}
 use Rattle.code_lower.specs.Lowered.{labels}
-use Rattle.code_lower.specs.Guarded.{Ended, guarded}
+use Rattle.code_lower.specs.Guarded.{Ended, guarded_run}
 
 -- no label stands at two positions
 abbrev pub LabelsDiffer : List Item → Type 0
@@ -25,7 +25,7 @@ later n w = record { state = w.state; seen = w.seen; steps = w.steps + n }
 abbrev pub CodeMeets : Contract → ℕ → Prog → Type 0
 CodeMeets c stack p =
     (s : State) → IsState s → Pre c s →
-    (n : ℕ) × (w : Way) × (guarded stack n p (start s) ≡ Ended w) × Post c s w.state × Frame c s w.state
+    (n : ℕ) × (w : Way) × (guarded_run stack n p (start s) ≡ Ended w) × Post c s w.state × Frame c s w.state
 
 abbrev pub all_labels : List (List ℕ × Prog) → ℕ
 all_labels [] = 0

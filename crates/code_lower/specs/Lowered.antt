@@ -71,5 +71,5 @@ abbrev pub lowered_from : ℕ → List (List ℕ × Prog) → List Item
 lowered_from k [] = []
 lowered_from k (e ∷ es) = export_items k e.0 e.1 ++ lowered_from (k + labels e.1) es
 
-abbrev pub lowered : List (List ℕ × Prog) → List Item
-lowered es = lowered_from 0 es
+abbrev pub lowered_items : List (List ℕ × Prog) → List Item
+lowered_items es = lowered_from 0 es

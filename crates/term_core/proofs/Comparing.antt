@@ -16,7 +16,7 @@ use Rattle.term_core.specs.declared.operator.BinOp.TheVariants as bin
 use Rattle.term_core.specs.declared.operator.CountedOp.{CountedOp}
 use Rattle.term_core.specs.declared.operator.CountedOp.TheVariants as counted
 use Rattle.term_core.specs.Operators.{sort_eq}
-use Rattle.term_core.specs.Terms.{Tm, Tms, Name, Int, W64, W128, Truth, Un, Bin, Ite, Put, Shift, Call, All, no_tms, more_tms, tree, tms, un_eq, bin_eq, counted_eq, un_number, bin_number, counted_number, truth_eq, tm_eq, tms_eq}
+use Rattle.term_core.specs.Terms.{Tm, Tms, Name, Int, W64, W128, TruthTerm, Un, Bin, Ite, Put, Shift, Call, All, no_tms, more_tms, tree, tms, un_eq, bin_eq, counted_eq, un_number, bin_number, counted_number, truth_eq, tm_eq, tms_eq}
 
 pub lengths_differ : (as_ bs : List Term) → (length as_ ≡ length bs → ⊥) → false ≡ tms_eq (tms (map tree as_)) (tms (map tree bs))
 lengths_differ [] [] differ = absurd (differ refl)
@@ -144,7 +144,7 @@ mutual
   tm_eq_is (Int a) (Int b) h = ap Int ((signed_Decides a b).0 h)
   tm_eq_is (W64 a) (W64 b) h = ap W64 (eqb-true a b h)
   tm_eq_is (W128 a) (W128 b) h = ap W128 (eqb-true a b h)
-  tm_eq_is (Truth a) (Truth b) h = ap Truth (truth_eq_is a b h)
+  tm_eq_is (TruthTerm a) (TruthTerm b) h = ap TruthTerm (truth_eq_is a b h)
   tm_eq_is (Un o a) (Un p b) h =
       let q = and_parts (un_eq o p) _ h in
       ap (λ x. Un x a) (un_eq_is o p q.0) ∙ ap (Un p) (tm_eq_is a b q.1)
@@ -188,7 +188,7 @@ mutual
   tm_eq_same (Int a) = int_eq_same a
   tm_eq_same (W64 a) = eq-eqb a a refl
   tm_eq_same (W128 a) = eq-eqb a a refl
-  tm_eq_same (Truth a) = truth_eq_same a
+  tm_eq_same (TruthTerm a) = truth_eq_same a
   tm_eq_same (Un o a) = and_from _ _ (un_eq_same o) (tm_eq_same a)
   tm_eq_same (Bin o a b) = and_from _ _ (bin_eq_same o) (and_from _ _ (tm_eq_same a) (tm_eq_same b))
   tm_eq_same (Ite a b c) = and_from _ _ (tm_eq_same a) (and_from _ _ (tm_eq_same b) (tm_eq_same c))

@@ -15,7 +15,7 @@ use Rattle.term_core.specs.declared.operator.BinOp.TheVariants as bin
 use Rattle.term_core.specs.Operators.{sum_sort, bits_sort, un_sort, bin_sort, counted_sort}
 use Rattle.term_core.specs.Terms.{Tm, Name, Int, W64, W128, Un, Bin, Ite, Put, Shift, Call, All, tm_sort}
 use Rattle.term_core.specs.Terms as tm
-use Rattle.term_core.specs.Value.{T, T128, Val, Whole, Truth, Word, Wide, Array, truth, word, whole, wide, array, cast, word_of, val_eq, un_value, bin_value, sum_value, difference_value, product_value, bits_value, not_value, word_at, put_at, shifted, Functions, Assignment, value, values}
+use Rattle.term_core.specs.Value.{T, T128, Val, Whole, Truth, Word, Wide, Array, truth, word, whole, wide, array, cast, word_of, val_eq, un_value, bin_value, sum_value, difference_value, product_value, bits_value, not_value, word_at, put_at, shift_value, Functions, Assignment, value, values}
 use Rattle.term_core.specs.Words128.{paddd, pshufb}
 use Rattle.term_core.proofs.Comparing.{int_eq_same}
 
@@ -150,12 +150,12 @@ value-sorted f a (Name text s) = cast_twice s (a text s)
 value-sorted f a (Int z) = refl
 value-sorted f a (W64 n) = word_mod n
 value-sorted f a (W128 n) = is_wide _ (mod_below n T128 (omega arith))
-value-sorted f a (tm.Truth b) = refl
+value-sorted f a (tm.TruthTerm b) = refl
 value-sorted f a (Un op t) = un_value-sorted op (tm_sort t) (value f a t)
 value-sorted f a (Bin op t u) = bin_value-sorted op (tm_sort t) (value f a t) (value f a u)
 value-sorted f a (Ite c t u) = choice-sorted (tm_sort t) (truth (value f a c)) (value f a t) (value f a u) (value-sorted f a t)
 value-sorted f a (Put x i w) = cast_twice sort.Arr (Array (put_at (array (value f a x)) (whole (value f a i)) (word (value f a w))))
-value-sorted f a (Shift op n t) = cast_twice (counted_sort op) (shifted op n (value f a t))
+value-sorted f a (Shift op n t) = cast_twice (counted_sort op) (shift_value op n (value f a t))
 value-sorted f a (Call k s args) = cast_twice s (f k (values f a args))
 value-sorted f a (All text low high body) = refl
 

@@ -21,7 +21,7 @@ mutual
     Int : ℤ → Tm
     W64 : ℕ → Tm
     W128 : ℕ → Tm
-    Truth : Bool → Tm
+    TruthTerm : Bool → Tm
     Un : UnOp → Tm → Tm
     Bin : BinOp → Tm → Tm → Tm
     Ite : Tm → Tm → Tm → Tm
@@ -44,7 +44,7 @@ layer (Term-F.Name text s) = Name text s
 layer (Term-F.Int z) = Int z
 layer (Term-F.W64 n) = W64 n
 layer (Term-F.W128 n) = W128 n
-layer (Term-F.Bool b) = Truth b
+layer (Term-F.Bool b) = TruthTerm b
 layer (Term-F.Un op a) = Un op a
 layer (Term-F.Bin op a b) = Bin op a b
 layer (Term-F.Ite c a b) = Ite c a b
@@ -123,7 +123,7 @@ abbrev mutual
   tm_eq (Int a) (Int b) = int_eq a b
   tm_eq (W64 a) (W64 b) = a == b
   tm_eq (W128 a) (W128 b) = a == b
-  tm_eq (Truth a) (Truth b) = truth_eq a b
+  tm_eq (TruthTerm a) (TruthTerm b) = truth_eq a b
   tm_eq (Un o a) (Un p b) = un_eq o p && tm_eq a b
   tm_eq (Bin o a b) (Bin p c d) = bin_eq o p && (tm_eq a c && tm_eq b d)
   tm_eq (Ite a b c) (Ite d e f) = tm_eq a d && (tm_eq b e && tm_eq c f)
@@ -143,7 +143,7 @@ tm_sort (Name text s) = s
 tm_sort (Int z) = sort.Int
 tm_sort (W64 n) = sort.W64
 tm_sort (W128 n) = sort.W128
-tm_sort (Truth b) = sort.Bool
+tm_sort (TruthTerm b) = sort.Bool
 tm_sort (Un op a) = un_sort op (tm_sort a)
 tm_sort (Bin op a b) = bin_sort op (tm_sort a)
 tm_sort (Ite c a b) = tm_sort a

@@ -143,19 +143,19 @@ bin_value bin.Pshufb s v w = cast sort.W128 (Wide (pshufb (wide v) (wide w)))
 bin_value bin.Index s v w = cast sort.W64 (Word (word_at (array v) (whole w)))
 
 -- a word of 64 or 128 bits shifted, rotated or picked from by a constant
-abbrev pub shifted : CountedOp → ℕ → Val → Val
-shifted counted.Shl n v = Word (word v * 2 ^ n)
-shifted counted.Shr n v = Word (word v / 2 ^ n)
-shifted counted.Rol n v = Word ((word v * 2 ^ n) % T + word v / 2 ^ (64 - n))
-shifted counted.Ror n v = Word (word v / 2 ^ n + (word v * 2 ^ (64 - n)) % T)
-shifted counted.Pshufd n v = Wide (pshufd (wide v) n)
-shifted counted.Pslld n v = Wide (pslld (wide v) n)
-shifted counted.Psrld n v = Wide (psrld (wide v) n)
-shifted counted.Pslldq n v = Wide (pslldq (wide v) n)
-shifted counted.Psrldq n v = Wide (psrldq (wide v) n)
+abbrev pub shift_value : CountedOp → ℕ → Val → Val
+shift_value counted.Shl n v = Word (word v * 2 ^ n)
+shift_value counted.Shr n v = Word (word v / 2 ^ n)
+shift_value counted.Rol n v = Word ((word v * 2 ^ n) % T + word v / 2 ^ (64 - n))
+shift_value counted.Ror n v = Word (word v / 2 ^ n + (word v * 2 ^ (64 - n)) % T)
+shift_value counted.Pshufd n v = Wide (pshufd (wide v) n)
+shift_value counted.Pslld n v = Wide (pslld (wide v) n)
+shift_value counted.Psrld n v = Wide (psrld (wide v) n)
+shift_value counted.Pslldq n v = Wide (pslldq (wide v) n)
+shift_value counted.Psrldq n v = Wide (psrldq (wide v) n)
 
 abbrev pub counted_value : CountedOp → ℕ → Val → Val
-counted_value op n v = cast (counted_sort op) (shifted op n v)
+counted_value op n v = cast (counted_sort op) (shift_value op n v)
 
 abbrev pub put_value : Val → Val → Val → Val
 put_value x i w = cast sort.Arr (Array (put_at (array x) (whole i) (word w)))
@@ -192,7 +192,7 @@ abbrev mutual
   value f a (Int z) = Whole z
   value f a (W64 n) = Word (n % T)
   value f a (W128 n) = Wide (n % T128)
-  value f a (tm.Truth b) = Truth b
+  value f a (tm.TruthTerm b) = Truth b
   value f a (Un op t) = un_value op (tm_sort t) (value f a t)
   value f a (Bin op t u) = bin_value op (tm_sort t) (value f a t) (value f a u)
   value f a (Ite c t u) = if truth (value f a c) then value f a t else cast (tm_sort t) (value f a u)

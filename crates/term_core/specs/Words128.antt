@@ -36,11 +36,11 @@ abbrev pub pshufd : ℕ → ℕ → ℕ
 pshufd a n = by_lanes (λ k. lane a (digit 4 n k))
 
 -- the control byte's highest bit gives 0, else its lowest four bits pick a byte
-abbrev pub picked : ℕ → ℕ → ℕ
-picked a c = if nat_le 128 c then 0 else byte a (c % 16)
+abbrev pub picked_byte : ℕ → ℕ → ℕ
+picked_byte a c = if nat_le 128 c then 0 else byte a (c % 16)
 
 abbrev pub pshufb : ℕ → ℕ → ℕ
-pshufb a c = by_bytes (λ k. picked a (byte c k))
+pshufb a c = by_bytes (λ k. picked_byte a (byte c k))
 
 -- each lane by bits; all bits are gone from 32 on
 abbrev pub pslld : ℕ → ℕ → ℕ

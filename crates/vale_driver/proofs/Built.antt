@@ -23,7 +23,7 @@ use Rattle.x64_syntax.specs.inner.Nodes.{prog, node_tree, node_layer}
 use Rattle.x64_syntax.specs.Programs.{program_ok}
 use Rattle.x64_syntax.specs.Places.{reg_eq}
 use Rattle.x64_syntax.proofs.PlaceLemmas.{reg_eq_is}
-use Rattle.x64_meaning.specs.Condition.{no_functions, is_plain, unwritten, straight_items, StraightFits}
+use Rattle.x64_meaning.specs.Condition.{no_functions, is_plain, keeps_place, straight_items, StraightFits}
 use Rattle.x64_meaning.specs.Contract.{Meets, SameRuns}
 use Rattle.x64_meaning.specs.Exp.{among}
 use Rattle.x64_meaning.specs.Table.{writes}
@@ -151,7 +151,7 @@ straight_lowered p =
     append-nil (export_items 0 p.export (straight_code p.instructions))
     ∙ ap (λ l. item.Entry p.export ∷ (l ++ item.Ret ∷ [])) (code_is 0 p.instructions)
 
-declared : (p : StraightLine) (is : List Ins) (q : Place) → AllByRecursion (IsInstruction p.registers) is → changes_place p q ≡ false → unwritten is q ≡ true
+declared : (p : StraightLine) (is : List Ins) (q : Place) → AllByRecursion (IsInstruction p.registers) is → changes_place p q ≡ false → keeps_place is q ≡ true
 declared p [] q h out = refl
 declared p (i ∷ is) q h out = and_from _ _ (unwritten_by p.registers i q h.0 (changes_place p) (λ r. refl) (λ f. refl) out) (declared p is q h.1 out)
 

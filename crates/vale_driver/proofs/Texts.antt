@@ -4,7 +4,7 @@ use Rattle.std.specs.Prelude.{IfSome, Vec, Ok, position, slice_get}
 use Rattle.std.proofs.lemmas.Bool.{and_from, not-false, false≢true}
 use Rattle.x64_syntax.specs.declared.items.Item.TheVariants as item
 use Rattle.code_lower.proofs.First.{Passes, Fails, first, position_is, position_none}
-use Rattle.x64_evaluator.specs.Evaluated.{evaluated, way, are_general, is_general_item, is_entry, is_entry_at}
+use Rattle.x64_evaluator.specs.Evaluated.{evaluation, way, are_general, is_general_item, is_entry, is_entry_at}
 use Rattle.x64_evaluator.specs.Report.{report_text}
 use Rattle.std.specs.declared.alloc.Global.{Global}
 use Rattle.x64_syntax.specs.declared.items.Item.{Item}
@@ -66,7 +66,7 @@ module _ (tells : List ℕ → Option (List ℕ)) (e : EvalWords) where
   }
 
   -- the report of a run
-  pub reported : (told : Option (List ℕ)) (items : List Item) (at : ℕ) (start : State) (out : List ℕ) → told ≡ tells e.state → FileHolds (tells e.text) (λ t. Begun e t items (Some at)) → FileHolds told (λ t. StateRead t start) → out ≡ report_text (evaluated items trace_room e.steps at (way start [] 0)) → WritesReport tells e out
+  pub reported : (told : Option (List ℕ)) (items : List Item) (at : ℕ) (start : State) (out : List ℕ) → told ≡ tells e.state → FileHolds (tells e.text) (λ t. Begun e t items (Some at)) → FileHolds told (λ t. StateRead t start) → out ≡ report_text (evaluation items trace_room e.steps at (way start [] 0)) → WritesReport tells e out
   reported told items at start out same h k is = record {
     held = record { text = h.held; state = k.held };
     holds = (h.holds, subst (λ o. IfSome o (λ t. k.held ≡ t)) same k.holds);

@@ -10,7 +10,7 @@ use Rattle.term_core.specs.Terms.{Tm}
 use Rattle.x64_meaning.specs.Exp.{Exp, Before, After, W64, Bin}
 use Rattle.x64_meaning.specs.Contract.{Contract}
 use Rattle.x64_meaning.specs.Condition.{straight_hyps, straight_goal}
-use Rattle.code_lower.specs.Lowered.{lowered}
+use Rattle.code_lower.specs.Lowered.{lowered_items}
 use Rattle.straight_line.specs.declared.form.Promise.{Promise}
 use Rattle.straight_line.specs.declared.form.Promise.TheVariants.{Constant, Old, Sum}
 use Rattle.straight_line.specs.declared.form.StraightLine.{StraightLine}
@@ -52,4 +52,4 @@ abbrev pub exports_of : StraightLine → List (List ℕ × Prog)
 exports_of p = (p.export, straight_code p.instructions) ∷ []
 
 abbrev pub lowered_code : StraightLine → List Item
-lowered_code p = lowered (exports_of p)
+lowered_code p = lowered_items (exports_of p)

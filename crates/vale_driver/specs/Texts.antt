@@ -8,7 +8,7 @@ use Rattle.gas_text.specs.Gas.{gas_text}
 use Rattle.gas_text.specs.Text.{newlines, BadLine, Strays, ReadsAs}
 use Rattle.x64_meaning.specs.State.{State}
 use Rattle.x64_evaluator.specs.StateFile.{lines_of, IsStateOf, StopsAt}
-use Rattle.x64_evaluator.specs.Evaluated.{evaluated, way, is_general_item}
+use Rattle.x64_evaluator.specs.Evaluated.{evaluation, way, is_general_item}
 use Rattle.x64_evaluator.specs.Report.{report_text}
 use Rattle.vale_driver.specs.declared.status.Refusal.{Refusal}
 use Rattle.vale_driver.specs.Limits.{text_limit, state_limit, trace_room}
@@ -86,4 +86,4 @@ pub record IsReport (e : EvalWords) (text state out : List ℕ) : Type 0 where
   pub begun : Begun e text items (Some at)
   pub start : State
   pub read : StateRead state start
-  pub is : out ≡ report_text (evaluated items trace_room e.steps at (way start [] 0))
+  pub is : out ≡ report_text (evaluation items trace_room e.steps at (way start [] 0))

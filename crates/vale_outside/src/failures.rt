@@ -1,7 +1,7 @@
 // Which calls of an object in memory are to fail, so that a test can see what its caller does then.
 
 ghost use Rattle.std.specs.Prelude.{◌≡◌, ◌≤◌, ◌<◌, ◌^◌, OnOk, OnErr};
-ghost use Rattle.vale_outside.specs.Plan.{no_plan, next_fails, after_call, after_fault, with_failing};
+ghost use Rattle.vale_outside.specs.Plan.{no_plan, next_fails, after_call, with_failing};
 
 use std::alloc::{AllocError as NoMemory, Global};
 use std::marker::Model;
@@ -42,26 +42,22 @@ impl Failures {
         Ok(())
     }
 
-    /// Counts a call, and says whether it is one that is to fail.
-    pub(crate) fn next_call(&mut self) -> bool
-        ensures failed { result ≡ next_fails self.old }
-        ensures after { self.new ≡ after_call self.old result }
-        ensures count { self.old.faults ≤ self.new.faults }
+    /// Whether the next call is one that is to fail.
+    pub(crate) fn next_fails(&self) -> bool
+        ensures { result ≡ next_fails self.now }
+    {
+        let next = self.calls.saturating_add(1);
+        self.failing.iter().any(|call| *call == next)
+    }
+
+    /// Counts a call, and a fault where it failed.
+    pub(crate) fn count(&mut self, failed: bool)
+        ensures after { self.new ≡ after_call self.old failed }
+        ensures rises { self.old.faults ≤ self.new.faults }
     {
         self.calls = self.calls.saturating_add(1);
-        let calls = self.calls;
-        let failed = self.failing.iter().any(|call| *call == calls);
         if failed {
             self.faults = self.faults.saturating_add(1);
         }
-        failed
-    }
-
-    /// Counts a fault.
-    pub(crate) fn fault(&mut self)
-        ensures after { self.new ≡ after_fault self.old }
-        ensures count { self.old.faults ≤ self.new.faults }
-    {
-        self.faults = self.faults.saturating_add(1);
     }
 }

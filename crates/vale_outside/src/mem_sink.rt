@@ -1,6 +1,6 @@
 // Text in memory.
 
-ghost use Rattle.std.specs.Prelude.{◌≡◌, ◌≤◌, [], Some, OnOk, OnErr, IsErr, IsTrue, false, ◌++◌};
+ghost use Rattle.std.specs.Prelude.{◌≡◌, ◌≤◌, [], Some, OnOk, OnErr, IsErr, IsTrue, is_err, ◌++◌};
 ghost use Rattle.vale_outside.specs.Outside.{Rose, AppendsFront};
 ghost use Rattle.vale_outside.specs.Plan.{no_plan, with_failing, after_call, next_fails};
 
@@ -64,20 +64,20 @@ impl Sink for MemSink {
         ensures ok { OnOk result (self.new.bytes ≡ self.old.bytes ++ bytes.now) }
         ensures failed { OnErr result (Rose self.old.plan.faults self.new.plan.faults) }
         ensures fails { IsTrue (next_fails self.old.plan) → IsErr result }
-        ensures counts { OnOk result (self.new.plan ≡ after_call self.old.plan false) }
+        ensures counts { self.new.plan ≡ after_call self.old.plan (is_err result) }
         ensures front { OnErr result (AppendsFront (Some self.old.bytes) (Some self.new.bytes) bytes.now) }
         ensures count { self.old.plan.faults ≤ self.new.plan.faults }
     {
-        if self.failures.next_call() {
+        if self.failures.next_fails() {
             let _ = self.bytes.extend_from_slice(&bytes[..bytes.len() / 2]);
+            self.failures.count(true);
             return Err(PutFault::Failed);
         }
-        match self.bytes.extend_from_slice(bytes) {
+        let written = self.bytes.extend_from_slice(bytes);
+        self.failures.count(written.is_err());
+        match written {
             Ok(()) => Ok(()),
-            Err(_) => {
-                self.failures.fault();
-                Err(PutFault::Failed)
-            }
+            Err(_) => Err(PutFault::Failed),
         }
     }
 }

@@ -1,9 +1,9 @@
 // Files in memory.
 
-ghost use Rattle.std.specs.Prelude.{◌≡◌, ℕ, ◌≤◌, ◌<◌, ◌∷◌, List, [], ◌↔◌, length, take, Option, OnOk, OnErr, IfSome, true, is_none, ◌||◌, IsTrue};
+ghost use Rattle.std.specs.Prelude.{◌≡◌, ℕ, ◌≤◌, ◌<◌, ◌∷◌, List, [], ◌↔◌, length, take, Option, OnOk, OnErr, IfSome, true, IsTrue};
 ghost use Rattle.std.specs.String.{string_bytes};
 ghost use Rattle.vale_outside.specs.Outside.{Rose};
-ghost use Rattle.vale_outside.specs.Plan.{no_plan, with_failing, after_call, next_fails, held};
+ghost use Rattle.vale_outside.specs.Plan.{no_plan, with_failing, file_bytes, fetch_fails, after_fetch};
 
 use crate::failures::Failures;
 use crate::named_files::{NamedFiles, give};
@@ -61,7 +61,7 @@ impl MemStore {
 impl Store for MemStore {
     ghost may_ask = { λ _ _. true };
 
-    ghost tells = { λ s name. held s.files name };
+    ghost tells = { λ s name. file_bytes s.files name };
 
     ghost faults = { λ s. s.plan.faults };
 
@@ -69,27 +69,30 @@ impl Store for MemStore {
     fn fetch(&mut self, name: &str, limit: usize, into: &mut Vec<u8>) -> Result<(), FetchFault>
         requires empty { into.old.items ≡ [] }
 
-        ensures found { OnOk result (IfSome (held self.old.files name.now) (λ held. into.new.items ≡ held)) }
-        ensures too_long { result ≡ Err FetchFault.TooLong → IfSome (held self.old.files name.now) (λ held. limit < length held) }
+        ensures found { OnOk result (IfSome (file_bytes self.old.files name.now) (λ held. into.new.items ≡ held)) }
+        ensures too_long { result ≡ Err FetchFault.TooLong → IfSome (file_bytes self.old.files name.now) (λ held. limit < length held) }
         ensures full { result ≡ Err FetchFault.TooLong → length into.new.items ≡ limit }
         ensures failed { result ≡ Err FetchFault.Failed → Rose self.old.plan.faults self.new.plan.faults }
-        ensures fails { (result ≡ Err FetchFault.Failed) ↔ IsTrue (next_fails self.old.plan || is_none (held self.old.files name.now)) }
+        ensures fails { (result ≡ Err FetchFault.Failed) ↔ IsTrue (fetch_fails self.old name.now) }
+        ensures counts { self.new ≡ after_fetch self.old name.now }
 
-        ensures front { IfSome (held self.old.files name.now) (λ held. into.new.items ≡ take (length into.new.items) held) }
+        ensures front { IfSome (file_bytes self.old.files name.now) (λ held. into.new.items ≡ take (length into.new.items) held) }
         ensures within { length into.new.items ≤ limit }
 
         ensures count { self.old.plan.faults ≤ self.new.plan.faults }
         ensures same_names { List ℕ → true ≡ true }
-        ensures same_files { (n : List ℕ) → held self.new.files n ≡ held self.old.files n }
+        ensures same_files { (n : List ℕ) → file_bytes self.new.files n ≡ file_bytes self.old.files n }
     {
-        if self.failures.next_call() {
+        if self.failures.next_fails() {
+            self.failures.count(true);
             return Err(FetchFault::Failed);
         }
-        let Some(bytes) = self.files.get(name) else {
-            self.failures.fault();
-            return Err(FetchFault::Failed);
-        };
-        give(bytes, limit, into)
+        let held = self.files.get(name);
+        self.failures.count(held.is_none());
+        match held {
+            Some(bytes) => give(bytes, limit, into),
+            None => Err(FetchFault::Failed),
+        }
     }
 }
 

@@ -3,7 +3,7 @@
 ghost use Rattle.std.specs.Prelude.{◌≡◌, ◌∷◌, [], ◌<◌, ◌≤◌, length, take, OnOk, OnErr};
 ghost use Rattle.std.specs.Option.{option_copied};
 ghost use Rattle.std.specs.String.{string_bytes};
-ghost use Rattle.vale_outside.specs.Plan.{held};
+ghost use Rattle.vale_outside.specs.Plan.{file_bytes};
 
 use crate::store::FetchFault;
 use std::alloc::{AllocError as NoMemory, Global};
@@ -57,14 +57,14 @@ impl NamedFiles {
     }
 
     pub(crate) fn get(&self, name: &str) -> Option<&[u8]>
-        ensures { option_copied result ≡ held self.now name.now }
+        ensures { option_copied result ≡ file_bytes self.now name.now }
     {
         find(&self.files, name)
     }
 }
 
 fn find<'a>(files: &'a [NamedFile], name: &str) -> Option<&'a [u8]>
-    ensures { option_copied result ≡ held files.now name.now }
+    ensures { option_copied result ≡ file_bytes files.now name.now }
 {
     for file in files {
         if file.name.as_str() == name {

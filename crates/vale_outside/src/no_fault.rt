@@ -2,7 +2,7 @@
 
 ghost use Rattle.std.specs.Prelude.{◌≡◌, ℕ, ◌≤◌, ◌<◌, ◌∷◌, List, [], IsTrue, IsOk, is_some, length, take, None, OnOk, OnErr, IfSome};
 ghost use Rattle.std.specs.String.{string_bytes};
-ghost use Rattle.vale_outside.specs.Plan.{held};
+ghost use Rattle.vale_outside.specs.Plan.{file_bytes};
 
 use crate::named_files::{NamedFiles, give};
 use crate::sink::{PutFault, Sink};
@@ -45,9 +45,9 @@ impl NoFaultStore {
 }
 
 impl Store for NoFaultStore {
-    ghost may_ask = { λ s name. is_some (held s name) };
+    ghost may_ask = { λ s name. is_some (file_bytes s name) };
 
-    ghost tells = { held };
+    ghost tells = { file_bytes };
 
     ghost faults = { λ _. 0 };
 

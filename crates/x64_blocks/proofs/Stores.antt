@@ -36,7 +36,7 @@ store_at (suc k) (b ∷ bs) a new d h none e =
     ∙ ap (option_map (λ cs. b ∷ cs)) (store_at k bs a new d (omega arith) both.1 e)
 
 -- what stands at an index that is there needs no default
-same_at : (k : ℕ) (bs : List Range) (d e : Range) → k < length bs → get_or bs k d ≡ get_or bs k e
+pub same_at : (k : ℕ) (bs : List Range) (d e : Range) → k < length bs → get_or bs k d ≡ get_or bs k e
 same_at k [] d e h = absurd (over h)
   where
     over : k < 0 → ⊥

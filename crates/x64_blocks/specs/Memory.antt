@@ -1,5 +1,5 @@
 -- Blocks of memory, and accesses to them.
-use Rattle.std.specs.Prelude.{ℕ, ◌+◌, ◌-◌, ◌*◌, ◌≡◌, Bool, ◌&&◌, nat_le, nat_lt, List, [], ◌∷◌, ◌++◌, length, take, drop, Option, Some, None, option_map, Result, Ok, Err, if◌then◌else◌}
+use Rattle.std.specs.Prelude.{ℕ, ◌+◌, ◌-◌, ◌*◌, ◌^◌, ◌≡◌, ◌≤◌, ◌<◌, Bool, true, ◌&&◌, nat_le, nat_lt, List, [], ◌∷◌, ◌++◌, length, take, drop, Option, Some, None, option_map, Result, Ok, Err, slice_index, slice_index_or, if◌then◌else◌}
 use Rattle.std.specs.List.{find}
 use Rattle.x64_blocks.specs.declared.blocks.Outside.{Outside}
 
@@ -11,6 +11,16 @@ pub record Range : Type 0 where
 -- a block holds all bytes of an access
 abbrev pub holds : ℕ → ℕ → Range → Bool
 holds a size b = nat_le b.base a && nat_le (a + size) (b.base + length b.bytes)
+
+-- the block of a number, and an empty one past the last
+abbrev pub block_at : List Range → ℕ → Range
+block_at bs k = slice_index_or bs k record { base = 0; bytes = [] }
+
+-- blocks end at or below 2^64, their bytes are bytes, and no address lies in two of them
+pub record IsMemory (bs : List Range) : Type 0 where
+  pub ends : (k : ℕ) → (block_at bs k).base + length (block_at bs k).bytes ≤ 2 ^ 64
+  pub bytes : (k i : ℕ) → slice_index (block_at bs k).bytes i < 256
+  pub apart : (a j k : ℕ) → holds a 1 (block_at bs j) ≡ true → holds a 1 (block_at bs k) ≡ true → j ≡ k
 
 -- two blocks have an address in common
 abbrev pub meets : Range → Range → Bool
@@ -28,12 +38,12 @@ abbrev pub bytes_at : ℕ → ℕ → Range → List ℕ
 bytes_at a size b = take size (drop (a - b.base) b.bytes)
 
 -- the bytes of an access, where one block holds them all
-abbrev pub accessed : List Range → ℕ → ℕ → Option (List ℕ)
-accessed bs a size = option_map (bytes_at a size) (find (holds a size) bs)
+abbrev pub access_bytes : List Range → ℕ → ℕ → Option (List ℕ)
+access_bytes bs a size = option_map (bytes_at a size) (find (holds a size) bs)
 
 -- the little-endian number in them
 abbrev pub load : List Range → ℕ → ℕ → Option ℕ
-load bs a size = option_map le_number (accessed bs a size)
+load bs a size = option_map le_number (access_bytes bs a size)
 
 -- a block with other bytes from an address on
 abbrev pub put_at : ℕ → List ℕ → Range → Range

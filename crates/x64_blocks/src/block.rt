@@ -1,6 +1,6 @@
 // One block, and the numbers in it.
 
-ghost use Rattle.std.specs.Prelude.{◌≡◌, ◌≤◌, ◌<◌, ◌+◌, ◌-◌, ◌^◌, length, IsTrue};
+ghost use Rattle.std.specs.Prelude.{◌≡◌, ℕ, ◌≤◌, ◌<◌, ◌+◌, ◌-◌, ◌^◌, length, slice_index, IsTrue};
 ghost use Rattle.x64_blocks.specs.Memory.{holds, meets, bytes_at, put_at, le_number};
 
 use std::marker::Model;
@@ -21,6 +21,14 @@ impl Model for Block {
 }
 
 impl Block {
+    /// The block of these bytes.
+    pub(crate) fn new(base: u64, bytes: Vec<u8>) -> Self
+        ensures block { result ≡ record { base = base; bytes = bytes.items } }
+        ensures bytes { (i : ℕ) → slice_index bytes.items i < 256 }
+    {
+        Block { base, bytes }
+    }
+
     /// Whether the block holds all bytes of an access.
     pub(crate) fn holds(&self, address: u64, size: usize) -> bool
         ensures { result ≡ holds address size self.now }

@@ -1,10 +1,10 @@
 // Blocks that lie apart.
 
-ghost use Rattle.std.specs.Prelude.{◌≡◌, ◌≤◌, ◌<◌, ◌+◌, ◌^◌, ◌↔◌, ◌++◌, ◌∷◌, [], length, true, OnOk, OnErr, IfSome, slice_index_or};
+ghost use Rattle.std.specs.Prelude.{◌≡◌, ◌≤◌, ◌<◌, ◌+◌, ◌^◌, ◌↔◌, ◌++◌, ◌∷◌, [], length, true, OnOk, OnErr, IfSome};
 ghost use Rattle.std.specs.Int.{to_le_bytes, w64, w128};
 ghost use Rattle.std.specs.List.{find, list_any};
 ghost use Rattle.std.specs.Option.{option_copied};
-ghost use Rattle.x64_blocks.specs.Memory.{Range, meets, accessed, load, store, or_outside, Stores};
+ghost use Rattle.x64_blocks.specs.Memory.{Range, IsMemory, block_at, meets, access_bytes, load, store, or_outside, Stores};
 
 use crate::block::{Block, le_number};
 use std::alloc::Global;
@@ -18,11 +18,13 @@ pub struct Blocks {
 
 impl Model for Blocks {
     ghost use Rattle.std.specs.Prelude.{List};
-    ghost use Rattle.x64_blocks.specs.Memory.{Range};
+    ghost use Rattle.x64_blocks.specs.Memory.{Range, IsMemory};
 
     ghost Value = { List Range };
 
     ghost view = { λ b. b.blocks.items };
+
+    ghost invariant = { λ b. IsMemory b.blocks.items };
 }
 
 /// Why a block isn't added.
@@ -57,7 +59,7 @@ impl Blocks {
         ensures ok { OnOk result (self.new ≡ self.old ++ record { base = base; bytes = bytes.items } ∷ []) }
         ensures err { OnErr result (self.new ≡ self.old) }
     {
-        let block = Block { base, bytes };
+        let block = Block::new(base, bytes);
         if block.end() > 1 << 64 {
             return Err(AddFault::PastEnd);
         }
@@ -116,6 +118,13 @@ impl Blocks {
         Err(Outside)
     }
 
+    /// Blocks lie apart and end at or below 2^64.
+    pub fn are_memory(&self)
+        ensures { IsMemory self.now }
+    {
+        let _ = &self.blocks;
+    }
+
     /// How many blocks there are.
     pub fn count(&self) -> usize
         ensures { result ≡ length self.now }
@@ -126,7 +135,7 @@ impl Blocks {
     /// The address of a block's first byte.
     pub fn base(&self, k: usize) -> u64
         requires { k < length self.now }
-        ensures { result ≡ (slice_index_or self.now k record { base = 0; bytes = [] }).base }
+        ensures { result ≡ (block_at self.now k).base }
     {
         self.blocks[k].base
     }
@@ -134,7 +143,7 @@ impl Blocks {
     /// A block's bytes.
     pub fn bytes(&self, k: usize) -> &[u8]
         requires { k < length self.now }
-        ensures { result.now ≡ (slice_index_or self.now k record { base = 0; bytes = [] }).bytes }
+        ensures { result.now ≡ (block_at self.now k).bytes }
     {
         &self.blocks[k].bytes
     }
@@ -148,7 +157,7 @@ fn meets_any(block: &Block, blocks: &[Block]) -> bool
 
 // The bytes of an access, where one block holds them all.
 fn access(blocks: &[Block], address: u64, size: usize) -> Option<&[u8]>
-    ensures value { option_copied result ≡ accessed blocks.now address size }
+    ensures value { option_copied result ≡ access_bytes blocks.now address size }
     ensures size { IfSome result (λ bytes. length bytes.now ≡ size) }
 {
     for block in blocks {

@@ -1,18 +1,13 @@
 -- An evaluation is a run of the machine.
-use Rattle.std.proofs.Common.{◌≡◌, ℕ, zero, suc, ◌<◌, Bool, true, false, List, length, Option, Some, None, refl, sym, ap, ◌∙◌, subst, arith}
-use Rattle.std.specs.Prelude.{nat_le, slice_get, position, if◌then◌else◌}
-use Rattle.std.specs.List.{find}
+use Rattle.std.proofs.Common.{◌≡◌, ℕ, zero, suc, ◌<◌, Bool, true, false, List, length, refl, sym, ap, ◌∙◌, subst, arith}
+use Rattle.std.specs.Prelude.{nat_le, if◌then◌else◌}
 use Rattle.std.proofs.lemmas.Bool.{leb-false}
-use Rattle.x64_syntax.specs.declared.places.FlagName.{FlagName}
 use Rattle.x64_syntax.specs.declared.items.Item.{Item}
-use Rattle.x64_syntax.specs.declared.items.Item.TheVariants as item
-use Rattle.x64_syntax.specs.Instructions.{cond_flags}
-use Rattle.x64_meaning.specs.State.{flag}
-use Rattle.x64_meaning.specs.Run.{Way, Outcome, Done, does, Running, Stopped, Past, run, act, after_does, at_label, branch, is_label, is_undefined, cond_holds}
+use Rattle.x64_meaning.specs.Run.{Way, Step, GoesOn, Ends, Stops, Leaves, step, Running, Stopped, Past, follow, run}
 use Rattle.x64_meaning.specs.Run as machine
 use Rattle.x64_evaluator.specs.declared.end.End.{End}
 use Rattle.x64_evaluator.specs.declared.end.End.TheVariants.{Ended, Faulted, OffCode, Paused, TraceFull}
-use Rattle.x64_evaluator.specs.Evaluated.{Halt, after_step, halted, evaluated, Before, IsRun}
+use Rattle.x64_evaluator.specs.Evaluated.{Halt, after_step, halt_at, evaluation, Before, IsRun}
 
 -- goes on where a run goes on
 abbrev then_ : (ℕ → Way → machine.End) → machine.End → machine.End
@@ -22,31 +17,15 @@ then_ next (Stopped f) = Stopped f
 then_ next Past = Past
 
 module _ (next : ℕ → Way → machine.End) where
-  at_label_first : (o : Option ℕ) (w : Way) → at_label o next w ≡ then_ next (at_label o Running w)
-  at_label_first None w = refl
-  at_label_first (Some pos) w = refl
-
-  does_first : (x : Outcome) (pos : ℕ) (w : Way) → after_does x next pos w ≡ then_ next (after_does x Running pos w)
-  does_first (Done t os) pos w = refl
-  does_first (machine.Faulted f) pos w = refl
-
-  branch_first : (f : Option FlagName) (b : Bool) (target : Option ℕ) (pos : ℕ) (w : Way) → branch f b target next pos w ≡ then_ next (branch f b target Running pos w)
-  branch_first (Some f) b target pos w = refl
-  branch_first None true target pos w = at_label_first target _
-  branch_first None false target pos w = refl
-
-  act_first : (items : List Item) (o : Option Item) (pos : ℕ) (w : Way) → act items o next pos w ≡ then_ next (act items o Running pos w)
-  act_first items None pos w = refl
-  act_first items (Some (item.Ins i)) pos w = does_first (does i w.state) pos w
-  act_first items (Some (item.Label l)) pos w = refl
-  act_first items (Some (item.Entry name)) pos w = refl
-  act_first items (Some (item.Jmp l)) pos w = at_label_first (position (is_label l) items) _
-  act_first items (Some (item.Jcc c l)) pos w = branch_first (find (λ f. is_undefined (flag w.state f)) (cond_flags c)) (cond_holds c w.state) (position (is_label l) items) pos w
-  act_first items (Some item.Ret) pos w = refl
+  follow_first : (x : Step) (w : Way) → follow w x next ≡ then_ next (follow w x Running)
+  follow_first (GoesOn pos s seen) w = refl
+  follow_first Ends w = refl
+  follow_first (Stops f) w = refl
+  follow_first Leaves w = refl
 
 module _ (items : List Item) (pos p : ℕ) (w v : Way) (first : run items 1 pos w ≡ Running p v) where
   one_more : (m : ℕ) → run items (suc m) pos w ≡ run items m p v
-  one_more m = act_first (run items m) items (slice_get items pos) pos w ∙ ap (then_ (run items m)) first
+  one_more m = follow_first (run items m) (step items pos w.state) w ∙ ap (then_ (run items m)) first
 
   later : (n : ℕ) (u : Way) (Next : machine.End → Type 0) → Before items n p v u Next → Before items (suc n) pos w u Next
   later n u Next h =
@@ -66,15 +45,15 @@ module _ (items : List Item) (pos p : ℕ) (w v : Way) (first : run items 1 pos 
 abbrev Tells : List Item → ℕ → ℕ → ℕ → Way → Halt → Type 0
 Tells items room n pos w h = IsRun items room n pos w h.end h.way
 
-pub is_run : (items : List Item) (room n pos : ℕ) (w : Way) → Tells items room n pos w (evaluated items room n pos w)
+pub is_run : (items : List Item) (room n pos : ℕ) (w : Way) → Tells items room n pos w (evaluation items room n pos w)
 is_run items room zero pos w = (pos, refl)
 is_run items room (suc n) pos w = by (λ p v. is_run items room n p v) (run items 1 pos w) refl
   where
-    by : ((p : ℕ) (v : Way) → Tells items room n p v (evaluated items room n p v)) → (x : machine.End) → run items 1 pos w ≡ x → Tells items room (suc n) pos w (after_step room w (evaluated items room n) x)
+    by : ((p : ℕ) (v : Way) → Tells items room n p v (evaluation items room n p v)) → (x : machine.End) → run items 1 pos w ≡ x → Tells items room (suc n) pos w (after_step room w (evaluation items room n) x)
     by rest (Running p v) first = by_room (nat_le (length v.seen) room) refl
       where
-        by_room : (b : Bool) → nat_le (length v.seen) room ≡ b → Tells items room (suc n) pos w (if b then evaluated items room n p v else halted TraceFull w)
-        by_room true fits = run_later items pos p w v first room n (evaluated items room n p v).end (evaluated items room n p v).way (rest p v)
+        by_room : (b : Bool) → nat_le (length v.seen) room ≡ b → Tells items room (suc n) pos w (if b then evaluation items room n p v else halt_at TraceFull w)
+        by_room true fits = run_later items pos p w v first room n (evaluation items room n p v).end (evaluation items room n p v).way (rest p v)
         by_room false full = (0, pos, omega arith, refl, (p, v, first, leb-false (length v.seen) room full))
     by rest (machine.Ended v) first = (1, omega arith, first)
     by rest (Stopped f) first = (0, pos, omega arith, refl, first)

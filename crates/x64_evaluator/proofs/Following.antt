@@ -11,12 +11,12 @@ use Rattle.x64_syntax.specs.PlaceSets.{in_set}
 use Rattle.x64_blocks.specs.Memory.{Range, meets}
 use Rattle.x64_meaning.specs.State.{State}
 use Rattle.x64_evaluator.specs.declared.state.StateReader.{StateReader}
-use Rattle.x64_evaluator.specs.StateFile.{Setting, Value, Block, limit, are_bytes, fits, clashes, may_follow, allowed, put, put_all, fresh}
-use Rattle.x64_evaluator.specs.Setting.{Holds, Takes, Adds, sets}
+use Rattle.x64_evaluator.specs.StateFile.{Setting, Value, Block, limit, are_bytes, fits, clashes, may_follow, may_stand, with_setting, with_settings, fresh}
+use Rattle.x64_evaluator.specs.inner.Setting.{Holds, Takes, Adds, sets}
 
-pub put_more : (s : State) (xs : List Setting) (x : Setting) → put_all s (xs ++ x ∷ []) ≡ put (put_all s xs) x
+pub put_more : (s : State) (xs : List Setting) (x : Setting) → with_settings s (xs ++ x ∷ []) ≡ with_setting (with_settings s xs) x
 put_more s [] x = refl
-put_more s (y ∷ ys) x = put_more (put s y) ys x
+put_more s (y ∷ ys) x = put_more (with_setting s y) ys x
 
 any_more : (p : Setting → Bool) (xs : List Setting) (x : Setting) → list_any p (xs ++ x ∷ []) ≡ (p x || list_any p xs)
 any_more p [] x = last (p x) where
@@ -29,7 +29,7 @@ any_more p (y ∷ ys) x = ap (λ b. p y || b) (any_more p ys x) ∙ turn (p y) (
   turn false true c = refl
   turn false false c = refl
 
-pub allowed_more : (before ss : List Setting) (s : Setting) → allowed before ss ≡ true → may_follow (before ++ ss) s ≡ true → allowed before (ss ++ s ∷ []) ≡ true
+pub allowed_more : (before ss : List Setting) (s : Setting) → may_stand before ss ≡ true → may_follow (before ++ ss) s ≡ true → may_stand before (ss ++ s ∷ []) ≡ true
 allowed_more before [] s h k = and_from _ _ (ap (λ l. may_follow l s) (sym (append-nil before)) ∙ k) refl
 allowed_more before (t ∷ ts) s h k =
     let p = and_parts (may_follow before t) _ h in
@@ -42,16 +42,16 @@ same_clash p n (Value q m ∷ ss) = ap (λ b. place_eq p q || b) (same_clash p n
 same_clash p n (Block b ∷ ss) = same_clash p n ss
 
 -- a block clashes with the blocks of the state
-meets_all : (b : Range) (s : State) (ss : List Setting) → list_any (meets b) (put_all s ss).blocks ≡ (list_any (meets b) s.blocks || list_any (clashes (Block b)) ss)
+meets_all : (b : Range) (s : State) (ss : List Setting) → list_any (meets b) (with_settings s ss).blocks ≡ (list_any (meets b) s.blocks || list_any (clashes (Block b)) ss)
 meets_all b s [] = last (list_any (meets b) s.blocks) where
   last : (x : Bool) → x ≡ (x || false)
   last true = refl
   last false = refl
-meets_all b s (Value (Reg r) n ∷ ss) = meets_all b (put s (Value (Reg r) n)) ss
-meets_all b s (Value (Xmm x) n ∷ ss) = meets_all b (put s (Value (Xmm x) n)) ss
-meets_all b s (Value (Flag f) n ∷ ss) = meets_all b (put s (Value (Flag f) n)) ss
+meets_all b s (Value (Reg r) n ∷ ss) = meets_all b (with_setting s (Value (Reg r) n)) ss
+meets_all b s (Value (Xmm x) n ∷ ss) = meets_all b (with_setting s (Value (Xmm x) n)) ss
+meets_all b s (Value (Flag f) n ∷ ss) = meets_all b (with_setting s (Value (Flag f) n)) ss
 meets_all b s (Block c ∷ ss) =
-    meets_all b (put s (Block c)) ss ∙ ap (λ x. x || list_any (clashes (Block b)) ss) (more s.blocks) ∙ turn (meets b c) (list_any (meets b) s.blocks) (list_any (clashes (Block b)) ss)
+    meets_all b (with_setting s (Block c)) ss ∙ ap (λ x. x || list_any (clashes (Block b)) ss) (more s.blocks) ∙ turn (meets b c) (list_any (meets b) s.blocks) (list_any (clashes (Block b)) ss)
   where
     more : (bs : List Range) → list_any (meets b) (bs ++ c ∷ []) ≡ (meets b c || list_any (meets b) bs)
     more [] = refl
@@ -68,7 +68,7 @@ meets_all b s (Block c ∷ ss) =
     turn false true z = refl
     turn false false z = refl
 
-pub blocks_meet : (b : Range) (ss : List Setting) → list_any (meets b) (put_all fresh ss).blocks ≡ list_any (clashes (Block b)) ss
+pub blocks_meet : (b : Range) (ss : List Setting) → list_any (meets b) (with_settings fresh ss).blocks ≡ list_any (clashes (Block b)) ss
 blocks_meet b ss = meets_all b fresh ss
 
 follows : (ss : List Setting) (s : Setting) → fits s ≡ true → list_any (clashes s) ss ≡ false → may_follow ss s ≡ true
@@ -78,13 +78,13 @@ clashing : (ss : List Setting) (s : Setting) → list_any (clashes s) ss ≡ tru
 clashing ss s some_ h = false≢true (sym (ap not some_) ∙ (and_parts (fits s) _ h).1)
 
 -- a value that its place has not yet
-pub value_taken : (ss : List Setting) (p : Place) (n : ℕ) (old new : StateReader) → Holds ss old → n < limit p → in_set old.set p ≡ false → new.machine ≡ put old.machine (Value p n) → ((q : Place) → in_set new.set q ≡ (place_eq q p || in_set old.set q)) → Takes ss (λ s. s ≡ Value p n) true new
+pub value_taken : (ss : List Setting) (p : Place) (n : ℕ) (old new : StateReader) → Holds ss old → n < limit p → in_set old.set p ≡ false → new.machine ≡ with_setting old.machine (Value p n) → ((q : Place) → in_set new.set q ≡ (place_eq q p || in_set old.set q)) → Takes ss (λ s. s ≡ Value p n) true new
 value_taken ss p n old new h lt none machine places = (
   Value p n,
   refl,
   follows ss (Value p n) (lt-ltb n (limit p) lt) (same_clash p n ss ∙ sym (h.places p) ∙ none),
   record {
-    machine = machine ∙ ap (λ s. put s (Value p n)) h.machine ∙ sym (put_more fresh ss (Value p n));
+    machine = machine ∙ ap (λ s. with_setting s (Value p n)) h.machine ∙ sym (put_more fresh ss (Value p n));
     places = λ q. places q ∙ ap (λ b. place_eq q p || b) (h.places q) ∙ sym (any_more (sets q) ss (Value p n));
   },
 )
@@ -100,7 +100,7 @@ block_taken ss b true old new h are adds same = (
   refl,
   follows ss (Block b) (and_from _ _ are (le-leb _ _ adds.0)) (sym (blocks_meet b ss) ∙ ap (λ s. list_any (meets b) s.blocks) (sym h.machine) ∙ adds.1),
   record {
-    machine = adds.2 ∙ ap (λ s. put s (Block b)) h.machine ∙ sym (put_more fresh ss (Block b));
+    machine = adds.2 ∙ ap (λ s. with_setting s (Block b)) h.machine ∙ sym (put_more fresh ss (Block b));
     places = λ q. ap (λ s. in_set s q) same ∙ h.places q ∙ sym (any_more (sets q) ss (Block b));
   },
 )

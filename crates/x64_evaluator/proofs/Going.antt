@@ -1,19 +1,15 @@
 -- How runs go on after a step.
-use Rattle.std.proofs.Common.{◌≡◌, ℕ, ◌+◌, Bool, true, false, List, ◌++◌, length, Option, Some, None, refl, sym, ap, ◌∙◌}
-use Rattle.std.specs.Prelude.{Result, Ok, Err, nat_le, slice_get, position, if◌then◌else◌}
-use Rattle.std.specs.List.{find}
-use Rattle.x64_syntax.specs.declared.places.FlagName.{FlagName}
+use Rattle.std.proofs.Common.{◌≡◌, ℕ, ◌+◌, Bool, true, false, List, ◌++◌, length, refl, sym, ap, ◌∙◌}
+use Rattle.std.specs.Prelude.{Result, Ok, Err, nat_le, if◌then◌else◌}
 use Rattle.x64_syntax.specs.declared.items.Item.{Item}
-use Rattle.x64_syntax.specs.declared.items.Item.TheVariants as item
-use Rattle.x64_syntax.specs.Instructions.{cond_flags}
 use Rattle.x64_meaning.specs.declared.machine.Obs.{Obs}
-use Rattle.x64_meaning.specs.State.{State, flag}
-use Rattle.x64_meaning.specs.Run.{Way, Outcome, Done, does, Running, Stopped, Past, run, act, after_does, at_label, branch, is_label, is_undefined, cond_holds}
+use Rattle.x64_meaning.specs.State.{State}
+use Rattle.x64_meaning.specs.Run.{Way, Outcome, Done, Step, GoesOn, Ends, Stops, Leaves, ins_step, step, Running, Stopped, Past, follow, run}
 use Rattle.x64_meaning.specs.Run as machine
 use Rattle.x64_evaluator.specs.declared.end.End.{End}
 use Rattle.x64_evaluator.specs.declared.end.End.TheVariants.{Ended, Faulted, OffCode, Paused, TraceFull}
-use Rattle.x64_evaluator.specs.Evaluated.{Halt, halted, after_step, way}
-use Rattle.x64_evaluator.specs.Moves.{Stand, stands, moved, done, steps_by}
+use Rattle.x64_evaluator.specs.Evaluated.{Halt, halt_at, after_step, way}
+use Rattle.x64_evaluator.specs.inner.Moves.{Stand, stands, step_stand, done, steps_by}
 
 -- at this position next, where something is
 abbrev at_next : ℕ → Result (Unit {0}) End → Result ℕ End
@@ -24,7 +20,7 @@ abbrev pub going : ℕ → Stand (Unit {0}) → Stand ℕ
 going pos x = stands (at_next pos x.next) x.state x.seen
 
 -- the step of an instruction is what the instruction leaves
-pub instruction_moves : (x : Outcome) (room pos k : ℕ) (s : State) (seen : List Obs) → going (pos + 1) (done room s seen x) ≡ moved room (way s seen k) (after_does x Running pos (way s seen k))
+pub instruction_moves : (x : Outcome) (room pos k : ℕ) (s : State) (seen : List Obs) → going (pos + 1) (done room s seen x) ≡ step_stand room (way s seen k) (follow (way s seen k) (ins_step x pos) Running)
 instruction_moves (Done t os) room pos k s seen = by (nat_le (length (seen ++ os)) room) where
   by : (b : Bool) → going (pos + 1) (if b then stands (Ok tt) t (seen ++ os) else stands (Err TraceFull) s seen) ≡ (if b then stands (Ok (pos + 1)) t (seen ++ os) else stands (Err TraceFull) s seen)
   by true = refl
@@ -37,27 +33,11 @@ Counted k (Running pos v) = v.steps ≡ k + 1
 Counted k (machine.Ended v) = v.steps ≡ k + 1
 Counted k _ = Unit {0}
 
-counted_at : (o : Option ℕ) (k : ℕ) (w : Way) → w.steps ≡ k + 1 → Counted k (at_label o Running w)
-counted_at None k w h = tt
-counted_at (Some pos) k w h = h
-
-counted_branch : (f : Option FlagName) (b : Bool) (target : Option ℕ) (pos : ℕ) (w : Way) → Counted w.steps (branch f b target Running pos w)
-counted_branch (Some f) b target pos w = tt
-counted_branch None true target pos w = counted_at target w.steps _ refl
-counted_branch None false target pos w = refl
-
-counted_does : (x : Outcome) (pos : ℕ) (w : Way) → Counted w.steps (after_does x Running pos w)
-counted_does (Done t os) pos w = refl
-counted_does (machine.Faulted f) pos w = tt
-
-counted : (items : List Item) (o : Option Item) (pos : ℕ) (w : Way) → Counted w.steps (act items o Running pos w)
-counted items None pos w = tt
-counted items (Some (item.Ins i)) pos w = counted_does (does i w.state) pos w
-counted items (Some (item.Label l)) pos w = refl
-counted items (Some (item.Entry name)) pos w = refl
-counted items (Some (item.Jmp l)) pos w = counted_at (position (is_label l) items) w.steps _ refl
-counted items (Some (item.Jcc c l)) pos w = counted_branch (find (λ f. is_undefined (flag w.state f)) (cond_flags c)) (cond_holds c w.state) (position (is_label l) items) pos w
-counted items (Some item.Ret) pos w = refl
+counted : (x : Step) (w : Way) → Counted w.steps (follow w x Running)
+counted (GoesOn pos s seen) w = refl
+counted Ends w = refl
+counted (Stops f) w = tt
+counted Leaves w = tt
 
 next_is : {a b : Result ℕ End} {s t : State} {l m : List Obs} → stands a s l ≡ stands b t m → a ≡ b
 next_is e = ap (λ x. x.next) e
@@ -79,10 +59,10 @@ way_is {t = t} {l = l} {m = m} {a = a} e f g = ap (λ s. way s l a) e ∙ ap (λ
 
 module _ (room : ℕ) (w : Way) (next : ℕ → Way → Halt) where
   -- where a step leads to another
-  onward : (x : machine.End) (pos : ℕ) (s : State) (seen : List Obs) → Counted w.steps x → stands (Ok pos) s seen ≡ moved room w x → after_step room w next x ≡ next pos (way s seen (w.steps + 1))
+  onward : (x : machine.End) (pos : ℕ) (s : State) (seen : List Obs) → Counted w.steps x → stands (Ok pos) s seen ≡ step_stand room w x → after_step room w next x ≡ next pos (way s seen (w.steps + 1))
   onward (Running p v) pos s seen c h = by (nat_le (length v.seen) room) h
     where
-      by : (b : Bool) → stands (Ok pos) s seen ≡ (if b then stands (Ok p) v.state v.seen else stands (Err TraceFull) w.state w.seen) → (if b then next p v else halted TraceFull w) ≡ next pos (way s seen (w.steps + 1))
+      by : (b : Bool) → stands (Ok pos) s seen ≡ (if b then stands (Ok p) v.state v.seen else stands (Err TraceFull) w.state w.seen) → (if b then next p v else halt_at TraceFull w) ≡ next pos (way s seen (w.steps + 1))
       by true h =
           ap (λ q. next q v) (sym (same_pos (next_is h))) ∙ ap (next pos) (way_is (sym (ap (λ x. x.state) h)) (sym (ap (λ x. x.seen) h)) c)
       by false h = absurd (let e = next_is h in no_ok e)
@@ -100,17 +80,17 @@ module _ (room : ℕ) (w : Way) (next : ℕ → Way → Halt) where
     no_ok e = cc
 
   -- where it is the last
-  last : (x : machine.End) (s : State) (seen : List Obs) → Counted w.steps x → stands (Err Ended) s seen ≡ moved room w x → after_step room w next x ≡ halted Ended (way s seen (w.steps + 1))
+  last : (x : machine.End) (s : State) (seen : List Obs) → Counted w.steps x → stands (Err Ended) s seen ≡ step_stand room w x → after_step room w next x ≡ halt_at Ended (way s seen (w.steps + 1))
   last (Running p v) s seen c h = by (nat_le (length v.seen) room) h
     where
-      by : (b : Bool) → stands (Err Ended) s seen ≡ (if b then stands (Ok p) v.state v.seen else stands (Err TraceFull) w.state w.seen) → (if b then next p v else halted TraceFull w) ≡ halted Ended (way s seen (w.steps + 1))
+      by : (b : Bool) → stands (Err Ended) s seen ≡ (if b then stands (Ok p) v.state v.seen else stands (Err TraceFull) w.state w.seen) → (if b then next p v else halt_at TraceFull w) ≡ halt_at Ended (way s seen (w.steps + 1))
       by true h = absurd (no_ok (next_is h)) where
         no_ok : ◌≡◌ {A = Result ℕ End} (Err Ended) (Ok p) → ⊥
         no_ok e = cc
       by false h = absurd (no_end (same_end (next_is h))) where
         no_end : Ended ≡ TraceFull → ⊥
         no_end e = cc
-  last (machine.Ended v) s seen c h = ap (halted Ended) (way_is (sym (ap (λ x. x.state) h)) (sym (ap (λ x. x.seen) h)) c)
+  last (machine.Ended v) s seen c h = ap (halt_at Ended) (way_is (sym (ap (λ x. x.state) h)) (sym (ap (λ x. x.seen) h)) c)
   last (Stopped f) s seen c h = absurd (no_end (same_end (next_is h))) where
     no_end : Ended ≡ Faulted f → ⊥
     no_end e = cc
@@ -119,29 +99,29 @@ module _ (room : ℕ) (w : Way) (next : ℕ → Way → Halt) where
     no_end e = cc
 
   -- where it isn't made
-  unmade : (x : machine.End) (e : End) (s : State) (seen : List Obs) → (e ≡ Ended → ⊥) → stands (Err e) s seen ≡ moved room w x → after_step room w next x ≡ halted e (way s seen w.steps)
+  unmade : (x : machine.End) (e : End) (s : State) (seen : List Obs) → (e ≡ Ended → ⊥) → stands (Err e) s seen ≡ step_stand room w x → after_step room w next x ≡ halt_at e (way s seen w.steps)
   unmade (Running p v) e s seen not_ended h = by (nat_le (length v.seen) room) h
     where
-      by : (b : Bool) → stands (Err e) s seen ≡ (if b then stands (Ok p) v.state v.seen else stands (Err TraceFull) w.state w.seen) → (if b then next p v else halted TraceFull w) ≡ halted e (way s seen w.steps)
+      by : (b : Bool) → stands (Err e) s seen ≡ (if b then stands (Ok p) v.state v.seen else stands (Err TraceFull) w.state w.seen) → (if b then next p v else halt_at TraceFull w) ≡ halt_at e (way s seen w.steps)
       by true h = absurd (no_ok (next_is h)) where
         no_ok : ◌≡◌ {A = Result ℕ End} (Err e) (Ok p) → ⊥
         no_ok e = cc
-      by false h = ap (λ f. halted f w) (sym (same_end (next_is h))) ∙ ap (halted e) (way_is (sym (ap (λ x. x.state) h)) (sym (ap (λ x. x.seen) h)) refl)
+      by false h = ap (λ f. halt_at f w) (sym (same_end (next_is h))) ∙ ap (halt_at e) (way_is (sym (ap (λ x. x.state) h)) (sym (ap (λ x. x.seen) h)) refl)
   unmade (machine.Ended v) e s seen not_ended h = absurd (not_ended (same_end (next_is h)))
-  unmade (Stopped f) e s seen not_ended h = ap (λ f. halted f w) (sym (same_end (next_is h))) ∙ ap (halted e) (way_is (sym (ap (λ x. x.state) h)) (sym (ap (λ x. x.seen) h)) refl)
-  unmade Past e s seen not_ended h = ap (λ f. halted f w) (sym (same_end (next_is h))) ∙ ap (halted e) (way_is (sym (ap (λ x. x.state) h)) (sym (ap (λ x. x.seen) h)) refl)
+  unmade (Stopped f) e s seen not_ended h = ap (λ f. halt_at f w) (sym (same_end (next_is h))) ∙ ap (halt_at e) (way_is (sym (ap (λ x. x.state) h)) (sym (ap (λ x. x.seen) h)) refl)
+  unmade Past e s seen not_ended h = ap (λ f. halt_at f w) (sym (same_end (next_is h))) ∙ ap (halt_at e) (way_is (sym (ap (λ x. x.state) h)) (sym (ap (λ x. x.seen) h)) refl)
 
 module _ (items : List Item) (room pos k : ℕ) (s : State) (seen : List Obs) (next : ℕ → Way → Halt) where
   abbrev one : machine.End
   one = run items 1 pos (way s seen k)
 
   counted_one : Counted k one
-  counted_one = counted items (slice_get items pos) pos (way s seen k)
+  counted_one = counted (step items pos s) (way s seen k)
 
-  pub goes_on : (q : ℕ) (t : State) (l : List Obs) → stands (Ok q) t l ≡ moved room (way s seen k) one → after_step room (way s seen k) next one ≡ next q (way t l (k + 1))
+  pub goes_on : (q : ℕ) (t : State) (l : List Obs) → stands (Ok q) t l ≡ step_stand room (way s seen k) one → after_step room (way s seen k) next one ≡ next q (way t l (k + 1))
   goes_on q t l h = onward room (way s seen k) next one q t l counted_one h
 
-  pub ends : (e : End) (t : State) (l : List Obs) → stands (Err e) t l ≡ moved room (way s seen k) one → after_step room (way s seen k) next one ≡ halted e (way t l (steps_by e k))
+  pub ends : (e : End) (t : State) (l : List Obs) → stands (Err e) t l ≡ step_stand room (way s seen k) one → after_step room (way s seen k) next one ≡ halt_at e (way t l (steps_by e k))
   ends Ended t l h = last room (way s seen k) next one t l counted_one h
   ends (Faulted f) t l h = unmade room (way s seen k) next one (Faulted f) t l (λ e. cc) h
   ends OffCode t l h = unmade room (way s seen k) next one OffCode t l (λ e. cc) h

@@ -12,7 +12,7 @@ use Rattle.x64_syntax.specs.Places.{place_name}
 use Rattle.x64_blocks.specs.Memory.{Range}
 use Rattle.x64_evaluator.specs.declared.state.StateReader.{StateReader}
 use Rattle.x64_evaluator.specs.StateFile.{Setting, Value, Block, setting_text, value_text, range_text, bytes_text, limit, are_bytes, fits, may_follow}
-use Rattle.x64_evaluator.specs.Setting.{Blankless, Takes}
+use Rattle.x64_evaluator.specs.inner.Setting.{Blankless, Takes}
 use Rattle.x64_evaluator.proofs.PlaceNames.{name_graphic, no_block}
 use Rattle.x64_evaluator.proofs.Texts.{blankless, ascii, cut_same, decimal_graphic, few_digits}
 use Rattle.x64_evaluator.proofs.Taken.{small, range_base}

@@ -19,7 +19,7 @@ use Rattle.x64_syntax.specs.Places.{place_name, reg_name, xmm_name, flag_name, r
 use Rattle.x64_blocks.specs.Memory.{Range}
 use Rattle.x64_meaning.specs.State.{State}
 use Rattle.x64_syntax.proofs.Lists.{same_head, same_tail}
-use Rattle.x64_evaluator.specs.StateFile.{Setting, Value, Block, setting_text, range_text, bytes_text, are_bytes, fits, may_follow, allowed, IsStateOf, StopsAt}
+use Rattle.x64_evaluator.specs.StateFile.{Setting, Value, Block, setting_text, range_text, bytes_text, are_bytes, fits, may_follow, may_stand, IsStateOf, StopsAt}
 use Rattle.x64_evaluator.proofs.PlaceNames.{no_block}
 use Rattle.x64_evaluator.proofs.Texts.{cut_same, few_digits}
 use Rattle.x64_evaluator.proofs.Taken.{small, some_items, same_ok, range_base, range_bytes, base_blankless}
@@ -115,7 +115,7 @@ same_setting (Block b) (Block c) h k e =
     let parts = cut_same (codes "block") (range_text b) (codes "block") (range_text c) (word_blankless (Block b)) (word_blankless (Block c)) e in
     ap Block (same_range b c (range_fits b h) (range_fits c k) parts.1)
 
-follows : (before : List Setting) (s : Setting) (ss : List Setting) → allowed before (s ∷ ss) ≡ true → may_follow before s ≡ true
+follows : (before : List Setting) (s : Setting) (ss : List Setting) → may_stand before (s ∷ ss) ≡ true → may_follow before s ≡ true
 follows before s ss h = (and_parts (may_follow before s) _ h).0
 
 fitting : (before : List Setting) (s : Setting) → may_follow before s ≡ true → fits s ≡ true
@@ -129,7 +129,7 @@ nearer : (before : List Setting) (s : Setting) (ss : List Setting) (line : List 
 nearer before s ss line none t is h = none t is (ap (λ l. may_follow l t) (sym (append_assoc before (s ∷ []) ss)) ∙ h)
 
 module _ (l k : List ℕ) (ls ks : List (List ℕ)) where
-  one_length : (before ss ts : List Setting) → allowed before ss ≡ true → allowed before ts ≡ true → map setting_text ss ++ l ∷ ls ≡ map setting_text ts ++ k ∷ ks → NoneMay (before ++ ss) l → NoneMay (before ++ ts) k → length ss ≡ length ts
+  one_length : (before ss ts : List Setting) → may_stand before ss ≡ true → may_stand before ts ≡ true → map setting_text ss ++ l ∷ ls ≡ map setting_text ts ++ k ∷ ks → NoneMay (before ++ ss) l → NoneMay (before ++ ts) k → length ss ≡ length ts
   one_length before [] [] h g e none none' = refl
   one_length before [] (t ∷ ts) h g e none none' =
       absurd (none t (sym (same_head e)) (ap (λ b. may_follow b t) (append-nil before) ∙ follows before t ts g))
@@ -138,18 +138,18 @@ module _ (l k : List ℕ) (ls ks : List (List ℕ)) where
   one_length before (s ∷ ss) (t ∷ ts) h g e none none' =
       let same = same_setting s t (fitting before s (follows before s ss h)) (fitting before t (follows before t ts g)) (same_head e) in
       let rest = one_length (before ++ s ∷ []) ss ts (and_parts (may_follow before s) _ h).1
-      (ap (λ x. allowed (before ++ x ∷ []) ts) same ∙ (and_parts (may_follow before t) _ g).1) (same_tail e)
+      (ap (λ x. may_stand (before ++ x ∷ []) ts) same ∙ (and_parts (may_follow before t) _ g).1) (same_tail e)
       (nearer before s ss l none) (nearer before s ts k (λ u is f. none' u is (ap (λ x. may_follow (before ++ x ∷ ts) u) (sym same) ∙ f))) in
       omega (arith, rest)
 
-  no_line : (before ss ts : List Setting) → allowed before ss ≡ true → allowed before ts ≡ true → map setting_text ss ≡ map setting_text ts ++ k ∷ ks → NoneMay (before ++ ts) k → ⊥
+  no_line : (before ss ts : List Setting) → may_stand before ss ≡ true → may_stand before ts ≡ true → map setting_text ss ≡ map setting_text ts ++ k ∷ ks → NoneMay (before ++ ts) k → ⊥
   no_line before [] [] h g e none = absurd cc
   no_line before [] (t ∷ ts) h g e none = absurd cc
   no_line before (s ∷ ss) [] h g e none = none s (same_head e) (ap (λ b. may_follow b s) (append-nil before) ∙ follows before s ss h)
   no_line before (s ∷ ss) (t ∷ ts) h g e none =
       let same = same_setting s t (fitting before s (follows before s ss h)) (fitting before t (follows before t ts g)) (same_head e) in
       no_line (before ++ s ∷ []) ss ts (and_parts (may_follow before s) _ h).1
-      (ap (λ x. allowed (before ++ x ∷ []) ts) same ∙ (and_parts (may_follow before t) _ g).1) (same_tail e)
+      (ap (λ x. may_stand (before ++ x ∷ []) ts) same ∙ (and_parts (may_follow before t) _ g).1) (same_tail e)
       (nearer before s ts k (λ u is f. none u is (ap (λ x. may_follow (before ++ x ∷ ts) u) (sym same) ∙ f)))
 
 pub one_stop : (lines : List (List ℕ)) (m n : ℕ) → StopsAt lines m → StopsAt lines n → m ≡ n

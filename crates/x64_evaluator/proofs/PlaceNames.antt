@@ -11,7 +11,7 @@ use Rattle.x64_syntax.specs.declared.places.FlagName.TheVariants.{Cf, Zf, Sf, Of
 use Rattle.x64_syntax.specs.declared.places.Place.{Place}
 use Rattle.x64_syntax.specs.declared.places.Place.TheVariants.{Reg, Xmm, Flag}
 use Rattle.x64_syntax.specs.Places.{reg_name, xmm_name, flag_name, place_name}
-use Rattle.x64_evaluator.specs.Setting.{is_word, graphic}
+use Rattle.x64_evaluator.specs.inner.Setting.{is_word, graphic}
 
 pub reg_word : (r : GeneralReg) → is_word (reg_name r) ≡ true
 reg_word Rax = refl

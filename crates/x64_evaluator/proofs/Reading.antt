@@ -3,7 +3,7 @@ use Rattle.std.proofs.Common.{◌≡◌, ℕ, ◌+◌, true, false, List, [], �
 use Rattle.std.proofs.lemmas.List.{map-append}
 use Rattle.x64_evaluator.specs.declared.state.StateReader.{StateReader}
 use Rattle.x64_evaluator.specs.StateFile.{lines_of, setting_text, StopsAt}
-use Rattle.x64_evaluator.specs.Setting.{Takes, ReadSoFar}
+use Rattle.x64_evaluator.specs.inner.Setting.{Takes, ReadSoFar}
 use Rattle.x64_evaluator.proofs.Following.{allowed_more}
 
 module _ (bytes rest line behind : List ℕ) (number : ℕ) (old new : StateReader) (so : ReadSoFar bytes rest number old) (lines : lines_of rest ≡ line ∷ lines_of behind) where

@@ -10,7 +10,7 @@ use Rattle.x64_meaning.specs.Run.{is_label}
 use Rattle.code_lower.proofs.First.{Passes, Fails, first, position_none}
 use Rattle.code_lower.proofs.Leads.{found, label_is}
 use Rattle.code_lower.proofs.Program.{tail_of, at_label_is, no_less, differ_from}
-use Rattle.x64_evaluator.specs.Places.{OnlyAbove}
+use Rattle.x64_evaluator.specs.inner.Places.{OnlyAbove}
 
 rising : (k : ℕ) (xs : List Item) → labels_from k xs ≡ true → (l m i j : ℕ) → i < j → slice_get xs i ≡ Some (Label l) → slice_get xs j ≡ Some (Label m) → l < m
 rising k [] h l m i j lt e f = absurd cc

@@ -13,7 +13,7 @@ use Rattle.x64_syntax.specs.declared.places.Place.TheVariants.{Reg, Xmm, Flag}
 use Rattle.x64_syntax.specs.Places.{place_name}
 use Rattle.x64_blocks.specs.Memory.{Range}
 use Rattle.x64_evaluator.specs.StateFile.{value_text, bytes_text, limit, are_bytes}
-use Rattle.x64_evaluator.specs.Setting.{Blankless}
+use Rattle.x64_evaluator.specs.inner.Setting.{Blankless}
 use Rattle.x64_evaluator.proofs.PlaceNames.{name_graphic}
 use Rattle.x64_evaluator.proofs.Texts.{blankless, cut_same, number_blankless}
 

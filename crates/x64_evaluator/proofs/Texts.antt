@@ -8,7 +8,7 @@ use Rattle.std.proofs.lemmas.List.Folds.{list_all-append}
 use Rattle.std.proofs.lemmas.Str.Ascii.{IsAscii-nil, IsAscii-cons}
 use Rattle.std.proofs.lemmas.Fmt.{decimal_by_steps_wide}
 use Rattle.x64_syntax.proofs.Lists.{same_head, same_tail}
-use Rattle.x64_evaluator.specs.Setting.{is_graphic, graphic, Blankless}
+use Rattle.x64_evaluator.specs.inner.Setting.{is_graphic, graphic, Blankless}
 
 pub blankless : (bs : List ℕ) → graphic bs ≡ true → Blankless bs
 blankless [] h k lt = absurd (omega (arith, lt))

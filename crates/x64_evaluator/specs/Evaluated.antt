@@ -5,7 +5,7 @@ use Rattle.x64_syntax.specs.declared.items.Item.{Item}
 use Rattle.x64_syntax.specs.declared.items.Item.TheVariants as item
 use Rattle.x64_meaning.specs.declared.machine.Obs.{Obs}
 use Rattle.x64_meaning.specs.State.{State}
-use Rattle.x64_meaning.specs.Steps.{is_general}
+use Rattle.x64_meaning.specs.Table.{is_general}
 use Rattle.x64_meaning.specs.Run.{Way, run, Running, Stopped, Past}
 use Rattle.x64_meaning.specs.Run as machine
 use Rattle.x64_evaluator.specs.declared.end.End.{End}
@@ -21,21 +21,21 @@ pub record Halt : Type 0 where
   pub end : End
   pub way : Way
 
-abbrev pub halted : End → Way → Halt
-halted e w = record { end = e; way = w }
+abbrev pub halt_at : End → Way → Halt
+halt_at e w = record { end = e; way = w }
 
 -- goes on after a step, where its observation has room
 abbrev pub after_step : ℕ → Way → (ℕ → Way → Halt) → machine.End → Halt
-after_step room w next (Running pos v) = if nat_le (length v.seen) room then next pos v else halted TraceFull w
-after_step room w next (machine.Ended v) = halted Ended v
-after_step room w next (Stopped f) = halted (Faulted f) w
-after_step room w next Past = halted OffCode w
+after_step room w next (Running pos v) = if nat_le (length v.seen) room then next pos v else halt_at TraceFull w
+after_step room w next (machine.Ended v) = halt_at Ended v
+after_step room w next (Stopped f) = halt_at (Faulted f) w
+after_step room w next Past = halt_at OffCode w
 
 -- At most so many steps, each a run of one step. A step isn't made that is a fault, and then one isn't made whose
 -- observation has no room.
-abbrev pub evaluated : List Item → ℕ → ℕ → ℕ → Way → Halt
-evaluated items room zero pos w = halted Paused w
-evaluated items room (suc n) pos w = after_step room w (evaluated items room n) (run items 1 pos w)
+abbrev pub evaluation : List Item → ℕ → ℕ → ℕ → Way → Halt
+evaluation items room zero pos w = halt_at Paused w
+evaluation items room (suc n) pos w = after_step room w (evaluation items room n) (run items 1 pos w)
 
 -- the state of a run, what was seen and how many steps were made
 abbrev pub way : State → List Obs → ℕ → Way

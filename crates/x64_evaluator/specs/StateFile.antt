@@ -69,19 +69,19 @@ abbrev pub may_follow : List Setting → Setting → Bool
 may_follow before s = fits s && not (list_any (clashes s) before)
 
 -- each may follow those before it
-abbrev pub allowed : List Setting → List Setting → Bool
-allowed before [] = true
-allowed before (s ∷ ss) = may_follow before s && allowed (before ++ s ∷ []) ss
+abbrev pub may_stand : List Setting → List Setting → Bool
+may_stand before [] = true
+may_stand before (s ∷ ss) = may_follow before s && may_stand (before ++ s ∷ []) ss
 
-abbrev pub put : State → Setting → State
-put s (Value (Reg r) n) = record s { regs = slice_set s.regs (reg_number r) n }
-put s (Value (Xmm x) n) = record s { xmms = slice_set s.xmms (xmm_number x) n }
-put s (Value (Flag f) n) = record s { flags = slice_set s.flags (flag_number f) (flag_from (pos n)) }
-put s (Block b) = record s { blocks = s.blocks ++ b ∷ [] }
+abbrev pub with_setting : State → Setting → State
+with_setting s (Value (Reg r) n) = record s { regs = slice_set s.regs (reg_number r) n }
+with_setting s (Value (Xmm x) n) = record s { xmms = slice_set s.xmms (xmm_number x) n }
+with_setting s (Value (Flag f) n) = record s { flags = slice_set s.flags (flag_number f) (flag_from (pos n)) }
+with_setting s (Block b) = record s { blocks = s.blocks ++ b ∷ [] }
 
-abbrev pub put_all : State → List Setting → State
-put_all s [] = s
-put_all s (x ∷ xs) = put_all (put s x) xs
+abbrev pub with_settings : State → List Setting → State
+with_settings s [] = s
+with_settings s (x ∷ xs) = with_settings (with_setting s x) xs
 
 -- the machine without memory whose registers are 0 and whose flags are undefined
 abbrev pub fresh : State
@@ -90,16 +90,16 @@ fresh = record { regs = replicate 16 0; xmms = replicate 16 0; flags = replicate
 -- the lines set what the state has
 pub record IsStateOf (lines : List (List ℕ)) (s : State) : Type 0 where
   pub settings : List Setting
-  pub allowed : allowed [] settings ≡ true
+  pub allowed : may_stand [] settings ≡ true
   pub are : lines ≡ map setting_text settings
-  pub is : s ≡ put_all fresh settings
+  pub is : s ≡ with_settings fresh settings
 
 -- the line of this number is the first that sets nothing which may follow those before it
 pub record StopsAt (lines : List (List ℕ)) (number : ℕ) : Type 0 where
   pub settings : List Setting
   pub line : List ℕ
   pub behind : List (List ℕ)
-  pub allowed : allowed [] settings ≡ true
+  pub allowed : may_stand [] settings ≡ true
   pub are : lines ≡ map setting_text settings ++ line ∷ behind
   pub none : (s : Setting) → setting_text s ≡ line → may_follow settings s ≡ true → ⊥
   pub is : number ≡ length settings + 1

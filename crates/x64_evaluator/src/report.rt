@@ -2,7 +2,7 @@
 
 ghost use Rattle.std.specs.Prelude.{◌≡◌, ◌++◌, map, codes, decimal, OnOk, IfOk};
 ghost use Rattle.x64_evaluator.specs.StateFile.{block_text};
-ghost use Rattle.x64_evaluator.specs.Evaluated.{way, halted};
+ghost use Rattle.x64_evaluator.specs.Evaluated.{way, halt_at};
 ghost use Rattle.x64_evaluator.specs.Report.{end_text, mark, reg_line, xmm_line, flag_line, direction, seen_text, text_of, state_text, report_text};
 
 use crate::end::{End, RunEnd};
@@ -144,7 +144,7 @@ pub fn report_of(
     m: &Machine,
     trace: &Trace,
 ) -> Result<Vec<u8>, NoMemory>
-    ensures { IfOk result (λ text. text.items ≡ report_text (halted run.end (way m.now trace.now.seen run.steps))) }
+    ensures { IfOk result (λ text. text.items ≡ report_text (halt_at run.end (way m.now trace.now.seen run.steps))) }
 {
     let mut out = Vec::new(alloc);
     push_end(&mut out, run)?;

@@ -6,10 +6,10 @@ ghost use Rattle.x64_syntax.specs.declared.items.Item.TheVariants as item;
 ghost use Rattle.x64_syntax.specs.Programs.{program_ok, is_item, labels_from};
 ghost use Rattle.x64_syntax.specs.Instructions.{form_of};
 ghost use Rattle.x64_meaning.specs.declared.machine.Obs.{Obs as AnObs};
-ghost use Rattle.x64_meaning.specs.Steps.{is_general};
+ghost use Rattle.x64_meaning.specs.Table.{is_general};
 ghost use Rattle.x64_meaning.specs.Run.{does, run};
-ghost use Rattle.x64_evaluator.specs.Evaluated.{way, halted, evaluated, is_general_item, are_general, is_entry_at};
-ghost use Rattle.x64_evaluator.specs.Moves.{stands, moved, done, steps_by};
+ghost use Rattle.x64_evaluator.specs.Evaluated.{way, halt_at, evaluation, is_general_item, are_general, is_entry_at};
+ghost use Rattle.x64_evaluator.specs.inner.Moves.{stands, step_stand, done, steps_by};
 
 use crate::end::{End, RunEnd};
 use crate::places::place;
@@ -88,7 +88,7 @@ fn branch(
     requires order { labels_from 0 items.now ≡ true }
     requires within { at < length items.now }
     requires here { slice_get items.now at ≡ Some (item.Jcc c label) }
-    ensures moved { (k : ℕ) → stands result m.now t.new.seen ≡ moved t.old.room (way m.now t.old.seen k) (run items.now 1 at (way m.now t.old.seen k)) }
+    ensures moved { (k : ℕ) → stands result m.now t.new.seen ≡ step_stand t.old.room (way m.now t.old.seen k) (run items.now 1 at (way m.now t.old.seen k)) }
     ensures room { t.new.room ≡ t.old.room }
 {
     if let Some(flag) = open_flag(m, c) {
@@ -120,7 +120,7 @@ fn pass(
     requires here { slice_get items.now at ≡ Some item.now }
     requires form { is_item item.now ≡ true }
     requires general { is_general_item item.now ≡ true }
-    ensures moved { (k : ℕ) → stands result m.new t.new.seen ≡ moved t.old.room (way m.old t.old.seen k) (run items.now 1 at (way m.old t.old.seen k)) }
+    ensures moved { (k : ℕ) → stands result m.new t.new.seen ≡ step_stand t.old.room (way m.old t.old.seen k) (run items.now 1 at (way m.old t.old.seen k)) }
     ensures room { t.new.room ≡ t.old.room }
 {
     let _ = t.has_room();
@@ -141,7 +141,7 @@ fn step(items: &[Item], at: usize, m: &mut Machine, t: &mut Trace) -> Result<usi
     requires forms { list_all is_item items.now ≡ true }
     requires general { are_general items.now ≡ true }
     requires order { labels_from 0 items.now ≡ true }
-    ensures moved { (k : ℕ) → stands result m.new t.new.seen ≡ moved t.old.room (way m.old t.old.seen k) (run items.now 1 at (way m.old t.old.seen k)) }
+    ensures moved { (k : ℕ) → stands result m.new t.new.seen ≡ step_stand t.old.room (way m.old t.old.seen k) (run items.now 1 at (way m.old t.old.seen k)) }
     ensures room { t.new.room ≡ t.old.room }
 {
     match items.get(at) {
@@ -169,7 +169,7 @@ pub fn run_items(items: &[Item], entry: usize, m: &mut Machine, steps: u64, t: &
     requires program { program_ok items.now ≡ true }
     requires general { are_general items.now ≡ true }
     requires entry { is_entry_at items.now entry ≡ true }
-    ensures ended { halted result.end (way m.new t.new.seen result.steps) ≡ evaluated items.now t.old.room steps entry (way m.old t.old.seen 0) }
+    ensures ended { halt_at result.end (way m.new t.new.seen result.steps) ≡ evaluation items.now t.old.room steps entry (way m.old t.old.seen 0) }
     ensures room { t.new.room ≡ t.old.room }
 {
     let mut at = entry;

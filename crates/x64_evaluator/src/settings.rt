@@ -7,7 +7,7 @@ ghost use Rattle.x64_blocks.specs.Memory.{Range};
 ghost use Rattle.x64_syntax.specs.declared.places.Place.{Place as APlace};
 ghost use Rattle.x64_syntax.specs.Places.{place_name};
 ghost use Rattle.x64_evaluator.specs.StateFile.{limit, value_text, bytes_text, range_text, are_bytes};
-ghost use Rattle.x64_evaluator.specs.Setting.{IsValue, IsRange, range_seen, Blankless};
+ghost use Rattle.x64_evaluator.specs.inner.Setting.{IsValue, IsRange, range_seen, Blankless};
 
 use hex::{FromHexError, decode, encode};
 use std::alloc::{AllocError as NoMemory, Global};

@@ -2,8 +2,9 @@
 
 ghost use Rattle.std.specs.Prelude.{◌≡◌, ◌<◌, ◌≤◌, ◌+◌, ◌++◌, ◌∷◌, [], List, length, codes, IfOk, IfErr, true};
 ghost use Rattle.x64_blocks.specs.Memory.{Range};
-ghost use Rattle.x64_evaluator.specs.StateFile.{lines_of, Setting, Value, Block, setting_text, limit, are_bytes, put, IsStateOf, IsNoState};
-ghost use Rattle.x64_evaluator.specs.Setting.{Holds, Takes, Adds};
+ghost use Rattle.x64_meaning.specs.State.{IsState};
+ghost use Rattle.x64_evaluator.specs.StateFile.{lines_of, Setting, Value, Block, setting_text, limit, are_bytes, with_setting, IsStateOf, IsNoState};
+ghost use Rattle.x64_evaluator.specs.inner.Setting.{Holds, Takes, Adds};
 
 use crate::settings::{range_of, value_of};
 use memchr::memchr;
@@ -59,7 +60,7 @@ fn first_line(text: &[u8]) -> (&[u8], &[u8])
 // Gives a place a value.
 fn put(m: &mut Machine, place: Place, n: u128)
     requires { n < limit place }
-    ensures { m.new ≡ put m.old (Value place n) }
+    ensures { m.new ≡ with_setting m.old (Value place n) }
 {
     match place {
         Place::Reg(reg) => m.regs[reg.number()] = n as u64,
@@ -137,9 +138,10 @@ impl StateReader {
 }
 
 /// The machine of a state file, or its first line that is none: see docs/COMMANDS.md. What no line sets is 0, and a
-/// flag undefined. Blocks are in the order of their lines.
+/// flag undefined. Blocks are in the order of their lines. It is a state of the machine.
 pub fn read_state(alloc: Global, bytes: &[u8]) -> Result<Machine, StateFault>
     ensures ok { IfOk result (λ m. IsStateOf (lines_of bytes.now) m) }
+    ensures state { IfOk result (λ m. IsState m) }
     ensures err { IfErr result (λ fault. IsNoState (lines_of bytes.now) fault) }
 {
     let mut reader = StateReader::new(alloc);
@@ -153,5 +155,6 @@ pub fn read_state(alloc: Global, bytes: &[u8]) -> Result<Machine, StateFault>
         rest = behind;
         number += 1;
     }
+    reader.machine.is_a_state();
     Ok(reader.machine)
 }

@@ -1,7 +1,7 @@
 // What an observer saw of a run.
 
 ghost use Rattle.std.specs.Prelude.{◌≡◌, ◌≤◌, ◌<◌, ◌++◌, ◌∷◌, [], length, nat_lt, nat_le, IfOk, Ok};
-ghost use Rattle.x64_evaluator.specs.Moves.{shown};
+ghost use Rattle.x64_evaluator.specs.inner.Moves.{shown};
 
 use crate::end::End;
 use std::alloc::{AllocError as NoMemory, Global};

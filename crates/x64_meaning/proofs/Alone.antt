@@ -26,15 +26,13 @@ use Rattle.x64_meaning.specs.declared.machine.Flag.TheVariants.{Undefined}
 use Rattle.x64_meaning.specs.State.{State, reg, flag, read}
 use Rattle.x64_meaning.specs.Exp.{Exp, Before, After, W64, Un, Bin, Ite, exp_value}
 use Rattle.x64_meaning.specs.Exp as exp
-use Rattle.x64_meaning.specs.Table.{gets, sets, sum, difference, one_unless, one_if, one_equations, shift_equations, bit_of, undefined, is_set, holds, scaled_of, address_of, apply}
-use Rattle.x64_meaning.specs.Run.{address, scaled, is_one, cond_holds}
-use Rattle.x64_meaning.specs.Steps.{flag_if, set_reg, one_done, bit_at, rotated, shift_done, Fits}
+use Rattle.x64_meaning.specs.Table.{gets, sets, sum, difference, one_unless, one_if, one_equations, shift_equations, bit_of, undefined_flag, is_set, holds, scaled_of, address_of, apply}
+use Rattle.x64_meaning.specs.Run.{address, cond_holds}
+use Rattle.x64_meaning.specs.inner.Steps.{flag_if, set_reg, one_effect, bit_at, rotation_state, shift_effect, Fits}
 use Rattle.x64_meaning.proofs.Numbers.{plain_difference, addressed, word_of-lt}
 use Rattle.x64_meaning.proofs.Parts.{IsWord, IsTruth, IsFlag, constant, sum_word, difference_word, and_word, not_word, product_word, equal, flag_where, flag_unless, set_is}
 use Rattle.x64_meaning.proofs.Computes.{one_reg, finishes}
-
-scaled_mod : (n r : ℕ) → (n % T * r) % T ≡ (n * r) % T
-scaled_mod n r = ap (λ k. k % T) (mul_comm (n % T) r) ∙ mul-mod_second r n T ∙ ap (λ k. k % T) (mul_comm r n)
+use Rattle.x64_meaning.proofs.Plain.{condition_is, address_is}
 
 module _ (s : State) (m : ℕ → Val) (d : GeneralReg) (fits : Fits s) where
   abbrev a : ℕ
@@ -80,10 +78,10 @@ module _ (s : State) (m : ℕ → Val) (d : GeneralReg) (fits : Fits s) where
         let both = and_word (read s) (read now) m (exp.Shift counted.Shr n A) (W64 1) (a / 2 ^ n) 1 (shr_word n) one in
         flag_where (read s) (read now) m _ _ (equal (read s) (read now) m (Bin bin.And (exp.Shift counted.Shr n A) (W64 1)) (W64 1) (bit_and (a / 2 ^ n) 1) 1 both one)
 
-    open_flag : IsF undefined Undefined
+    open_flag : IsF undefined_flag Undefined
     open_flag = record { value = refl }
 
-  pub one_leaves : (op : OneOp) → apply s m (one_equations op (Reg d) A (After (Reg d))) s ≡ one_done op s d
+  pub one_leaves : (op : OneOp) → apply s m (one_equations op (Reg d) A (After (Reg d))) s ≡ one_effect op s d
   one_leaves one.Neg =
       let zero : (now : State) → IsW now (W64 0) 0 = λ now. constant (read s) (read now) m 0 (omega arith) in
       let half : (now : State) → IsW now (W64 (2 ^ 63)) (2 ^ 63) = λ now. constant (read s) (read now) m (2 ^ 63) (omega arith) in
@@ -94,50 +92,17 @@ module _ (s : State) (m : ℕ → Val) (d : GeneralReg) (fits : Fits s) where
       (λ now h. flag_where (read s) (read now) m _ _ (equal (read s) (read now) m A (W64 (2 ^ 63)) a (2 ^ 63) (held now d) (half now)))
   one_leaves one.Not = one_reg s s m d (Un un.Not A) (T - 1 - a) [] (not_word (read s) (read s) m A a (held s d))
 
-  rotates_leaves : (op : CountedOp) (n r : ℕ) → IsW s (exp.Shift op n A) r → apply s m (gets (Reg d) (exp.Shift op n A) ∷ sets Cf undefined ∷ sets Of undefined ∷ []) s ≡ rotated s d r
-  rotates_leaves op n r h = one_reg s s m d (exp.Shift op n A) r (sets Cf undefined ∷ sets Of undefined ∷ []) h
+  rotates_leaves : (op : CountedOp) (n r : ℕ) → IsW s (exp.Shift op n A) r → apply s m (gets (Reg d) (exp.Shift op n A) ∷ sets Cf undefined_flag ∷ sets Of undefined_flag ∷ []) s ≡ rotation_state s d r
+  rotates_leaves op n r h = one_reg s s m d (exp.Shift op n A) r (sets Cf undefined_flag ∷ sets Of undefined_flag ∷ []) h
 
-  pub shift_leaves : (op : ShiftOp) (n : ℕ) → apply s m (shift_equations op (Reg d) n A (After (Reg d))) s ≡ shift_done op s d n
-  shift_leaves shift.Shl n = finishes s m d (exp.Shift counted.Shl n A) (bit_of (64 - n) A) undefined ((a * 2 ^ n) % T) (flag_if (bit_at (64 - n) a)) Undefined fits (shl_word s n) (λ now h. bit_flag now (64 - n)) (λ now h. open_flag now)
-  shift_leaves shift.Shr n = finishes s m d (exp.Shift counted.Shr n A) (bit_of (n - 1) A) undefined (a / 2 ^ n) (flag_if (bit_at (n - 1) a)) Undefined fits (shr_word s n) (λ now h. bit_flag now (n - 1)) (λ now h. open_flag now)
+  pub shift_leaves : (op : ShiftOp) (n : ℕ) → apply s m (shift_equations op (Reg d) n A (After (Reg d))) s ≡ shift_effect op s d n
+  shift_leaves shift.Shl n = finishes s m d (exp.Shift counted.Shl n A) (bit_of (64 - n) A) undefined_flag ((a * 2 ^ n) % T) (flag_if (bit_at (64 - n) a)) Undefined fits (shl_word s n) (λ now h. bit_flag now (64 - n)) (λ now h. open_flag now)
+  shift_leaves shift.Shr n = finishes s m d (exp.Shift counted.Shr n A) (bit_of (n - 1) A) undefined_flag (a / 2 ^ n) (flag_if (bit_at (n - 1) a)) Undefined fits (shr_word s n) (λ now h. bit_flag now (n - 1)) (λ now h. open_flag now)
   shift_leaves shift.Rol n = rotates_leaves counted.Rol n _ (rol_word s n)
   shift_leaves shift.Ror n = rotates_leaves counted.Ror n _ (ror_word s n)
 
-  -- an address in words is that in numbers
-  address_word : (x : Mem) → IsW s (address_of x) (address s x)
-  address_word x = by_index x.index where
-    base : ℕ
-    base = reg s x.base
-
-    last : ℕ
-    last = word_of x.disp
-
-    disp : IsW s (W64 last) last
-    disp = constant (read s) (read s) m last (word_of-lt x.disp)
-
-    by_index : (o : Option (GeneralReg × ℕ)) → IsW s (sum (scaled_of (Before (Reg x.base)) o) (W64 last)) ((base + scaled s o + last) % T)
-    by_index None = record { value = (sum_word (read s) (read s) m (Before (Reg x.base)) (W64 last) base last (held s x.base) disp).value ∙ ap (λ n. Word ((n + last) % T)) (let e : base ≡ base + 0 = omega arith in e); small = mod_below (base + 0 + last) T (omega arith); sort = refl }
-    by_index (Some i) =
-        let scale : IsW s (W64 i.1) (i.1 % T) = record { value = refl; small = mod_below i.1 T (omega arith); sort = refl } in
-        let scaled_ = product_word (read s) (read s) m (W64 i.1) (Before (Reg i.0)) (i.1 % T) (reg s i.0) scale (held s i.0) in
-        let front = sum_word (read s) (read s) m (Before (Reg x.base)) (Bin bin.Mul (W64 i.1) (Before (Reg i.0))) base _ (held s x.base) scaled_ in
-        let all = sum_word (read s) (read s) m _ (W64 last) _ last front disp in
-        record { value = all.value ∙ ap Word (addressed base _ (i.1 * reg s i.0) last last (scaled_mod i.1 (reg s i.0)) refl); small = mod_below (base + i.1 * reg s i.0 + last) T (omega arith); sort = refl }
-
   pub lea_leaves : (x : Mem) → apply s m (gets (Reg d) (address_of x) ∷ []) s ≡ set_reg d (address s x) s
-  lea_leaves x = one_reg s s m d (address_of x) (address s x) [] (address_word x)
-
-  -- conditions
-  set_flag_is : (now : State) (f : FlagName) → IsTruth (read s) (read now) m (is_set f) (is_one (flag s f))
-  set_flag_is now f = set_is (read s) (read now) m f (flag s f) refl
-
-  condition_is : (c : Cond) → IsTruth (read s) (read s) m (holds c) (cond_holds c s)
-  condition_is condition.E = set_flag_is s Zf
-  condition_is condition.Ne = record { value = ap (λ v. Truth (not (truth v))) (set_flag_is s Zf).value }
-  condition_is condition.B = set_flag_is s Cf
-  condition_is condition.Ae = record { value = ap (λ v. Truth (not (truth v))) (set_flag_is s Cf).value }
-  condition_is condition.Be = record { value = ap (λ v. Truth (truth v || truth (exp_value (read s) (read s) m (is_set Zf)))) (set_flag_is s Cf).value ∙ ap (λ v. Truth (is_one (flag s Cf) || truth v)) (set_flag_is s Zf).value }
-  condition_is condition.A = record { value = ap (λ v. Truth (not (truth v) && not (truth (exp_value (read s) (read s) m (is_set Zf))))) (set_flag_is s Cf).value ∙ ap (λ v. Truth (not (is_one (flag s Cf)) && not (truth v))) (set_flag_is s Zf).value }
+  lea_leaves x = one_reg s s m d (address_of x) (address s x) [] (address_is s m fits x)
 
   chosen : (b : Bool) (r : GeneralReg) → cond b (Word (reg s r)) (cast sort.W64 (Word a)) ≡ Word (reg s (if b then r else d))
   chosen true r = refl
@@ -149,7 +114,7 @@ module _ (s : State) (m : ℕ → Val) (d : GeneralReg) (fits : Fits s) where
 
   pub cmov_leaves : (c : Cond) (r : GeneralReg) → apply s m (gets (Reg d) (Ite (holds c) (Before (Reg r)) A) ∷ []) s ≡ set_reg d (reg s (if cond_holds c s then r else d)) s
   cmov_leaves c r = one_reg s s m d (Ite (holds c) (Before (Reg r)) A) (reg s (if cond_holds c s then r else d)) [] record {
-    value = ap (λ v. cond (truth v) (Word (reg s r)) (cast sort.W64 (Word a))) (condition_is c).value ∙ chosen (cond_holds c s) r;
+    value = ap (λ v. cond (truth v) (Word (reg s r)) (cast sort.W64 (Word a))) (condition_is s m c).value ∙ chosen (cond_holds c s) r;
     small = chosen-lt (cond_holds c s) r;
     sort = refl;
   }

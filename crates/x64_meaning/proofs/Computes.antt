@@ -21,9 +21,8 @@ use Rattle.x64_meaning.specs.declared.machine.Flag.{Flag as FlagValue}
 use Rattle.x64_meaning.specs.declared.machine.Flag.TheVariants.{Zero, Undefined}
 use Rattle.x64_meaning.specs.State.{State, reg, flag, read}
 use Rattle.x64_meaning.specs.Exp.{Exp, Before, After, Loaded, Int, W64, Un, Bin}
-use Rattle.x64_meaning.specs.Table.{Equation, gets, sets, int_of, sum, difference, xor_of, sum_with, sum_with_reaches, reaches, one_if, zero_of, sign_of, flags_of, sum_overflow, difference_overflow, logic_equations, alu_equations, flag_in, lower, upper, undefined, one_unless, product_equations, carry_equations, apply}
-use Rattle.x64_meaning.specs.Run.{is_one}
-use Rattle.x64_meaning.specs.Steps.{flag_if, negative, set_flag, set_reg, with_result, finished, difference_overflows, alu_done, multiplied, halves, wide_product, carried, Fits}
+use Rattle.x64_meaning.specs.Table.{Equation, gets, sets, int_of, sum, difference, xor_of, sum_with, sum_with_reaches, reaches, one_if, zero_of, sign_of, flags_of, sum_overflow, difference_overflow, logic_equations, alu_equations, flag_in, lower, upper, undefined_flag, one_unless, product_equations, carry_equations, apply}
+use Rattle.x64_meaning.specs.inner.Steps.{is_one, flag_if, negative, set_flag, set_reg, with_result, result_state, difference_overflows, alu_effect, product_state, halves, wide_product, carry_state, Fits}
 use Rattle.x64_meaning.proofs.Numbers.{bit-lt, sum_in_two, plain_sum, plain_difference, difference_in_two}
 use Rattle.x64_meaning.proofs.Parts.{IsWord, IsWhole, IsTruth, IsFlag, constant, sum_word, difference_word, and_word, or_word, xor_word, number, whole_sum, as_word, reached, below, equal, flag_where, flag_unless, product_word, upper_word}
 use Rattle.x64_meaning.proofs.Parts as parts
@@ -62,7 +61,7 @@ module _ (s : State) (m : ℕ → Val) (r : ℕ) (e : Exp) where
       ∙ one_flag s now3 m Of o overflow [] (is_o now3.flags)
 
 -- a register's result and its flags
-pub finishes : (s : State) (m : ℕ → Val) (d : GeneralReg) (e c o : Exp) (r : ℕ) (carry overflow : FlagValue) → Fits s → IsWord (read s) (read s) m e r → ((now : State) → reg now d ≡ r → IsFlag (read s) (read now) m c carry) → ((now : State) → reg now d ≡ r → IsFlag (read s) (read now) m o overflow) → apply s m (gets (Reg d) e ∷ flags_of (After (Reg d)) c o) s ≡ finished d r carry overflow s
+pub finishes : (s : State) (m : ℕ → Val) (d : GeneralReg) (e c o : Exp) (r : ℕ) (carry overflow : FlagValue) → Fits s → IsWord (read s) (read s) m e r → ((now : State) → reg now d ≡ r → IsFlag (read s) (read now) m c carry) → ((now : State) → reg now d ≡ r → IsFlag (read s) (read now) m o overflow) → apply s m (gets (Reg d) e ∷ flags_of (After (Reg d)) c o) s ≡ result_state d r carry overflow s
 finishes s m d e c o r carry overflow fits is_r is_c is_o =
     let now = set_reg d r s in
     let here : reg now d ≡ r = got s d r fits in
@@ -151,16 +150,16 @@ module _ (s : State) (m : ℕ → Val) (d : GeneralReg) (b : ℕ) (fits : Fits s
   abbrev does_alu : AluOp → State
   does_alu op = apply s m (alu_equations op (Reg d) A B R) s
 
-  sum_leaves : (r : ℕ) (e c : Exp) (carry : FlagValue) → r < T → IsW s e r → ((now : State) → IsF now c carry) → apply s m (gets (Reg d) e ∷ flags_of R c (sum_overflow A B R)) s ≡ finished d r carry (flag_if (negative (bit_and (bit_xor a r) (bit_xor b r)))) s
+  sum_leaves : (r : ℕ) (e c : Exp) (carry : FlagValue) → r < T → IsW s e r → ((now : State) → IsF now c carry) → apply s m (gets (Reg d) e ∷ flags_of R c (sum_overflow A B R)) s ≡ result_state d r carry (flag_if (negative (bit_and (bit_xor a r) (bit_xor b r)))) s
   sum_leaves r e c carry lt is_r is_c = finishes s m d e c (sum_overflow A B R) r carry _ fits is_r (λ now h. is_c now) (λ now h. sum_over now r lt h)
 
-  difference_leaves : (r : ℕ) (e c : Exp) (carry : FlagValue) → r < T → IsW s e r → ((now : State) → IsF now c carry) → apply s m (gets (Reg d) e ∷ flags_of R c (difference_overflow A B R)) s ≡ finished d r carry (difference_overflows a b r) s
+  difference_leaves : (r : ℕ) (e c : Exp) (carry : FlagValue) → r < T → IsW s e r → ((now : State) → IsF now c carry) → apply s m (gets (Reg d) e ∷ flags_of R c (difference_overflow A B R)) s ≡ result_state d r carry (difference_overflows a b r) s
   difference_leaves r e c carry lt is_r is_c = finishes s m d e c (difference_overflow A B R) r carry _ fits is_r (λ now h. is_c now) (λ now h. difference_over now R r (wr now r lt h))
 
   to_word : (e : Exp) (k n : ℕ) → k ≡ n → IsW s e k → IsW s e n
   to_word e k n same h = record { value = h.value ∙ ap Word same; small = subst (λ x. x < T) same h.small; sort = h.sort }
 
-  add_leaves : does_alu alu.Add ≡ alu_done alu.Add s d b
+  add_leaves : does_alu alu.Add ≡ alu_effect alu.Add s d b
   add_leaves =
       let is_r = to_word (sum A B) ((a + b) % T) (words.sum a b false) (plain_sum a b) (sum_word (read s) (read s) m A B a b (wa s) (wb s)) in
       sum_leaves (words.sum a b false) _ _ _ is_r.small is_r (λ now. carries2 now)
@@ -172,7 +171,7 @@ module _ (s : State) (m : ℕ → Val) (d : GeneralReg) (b : ℕ) (fits : Fits s
       let three = sum_word (read s) (read s) m (sum A B) (Un un.Word (flag_in f)) ((a + b) % T) (bit c % T) two (wc s f) in
       to_word (sum_with f A B) _ _ (sum_in_two a b c) three
 
-  adc_leaves : does_alu alu.Adc ≡ alu_done alu.Adc s d b
+  adc_leaves : does_alu alu.Adc ≡ alu_effect alu.Adc s d b
   adc_leaves = let is_r = three_word Cf in sum_leaves _ _ _ _ is_r.small is_r (λ now. carries3 now Cf)
 
   two_word : IsW s (difference A B) (words.difference a b false)
@@ -183,7 +182,7 @@ module _ (s : State) (m : ℕ → Val) (d : GeneralReg) (b : ℕ) (fits : Fits s
       let r = flag_where (read s) (read now) m _ _ (below (read s) (read now) m (int_of A) (int_of B) a b (za now) (zb now)) in
       record { value = r.value ∙ ap (λ n. flag_if (nat_lt a n)) (let e : b ≡ b + 0 = omega arith in e) }
 
-  sub_leaves : does_alu alu.Sub ≡ alu_done alu.Sub s d b
+  sub_leaves : does_alu alu.Sub ≡ alu_effect alu.Sub s d b
   sub_leaves = difference_leaves _ _ _ _ two_word.small two_word borrows2
 
   borrows3 : (now : State) → IsF now (one_if (Bin bin.Lt (int_of A) (sum (int_of B) (flag_in Cf)))) (flag_if (words.borrows a b (is_one (flag s Cf))))
@@ -198,10 +197,10 @@ module _ (s : State) (m : ℕ → Val) (d : GeneralReg) (b : ℕ) (fits : Fits s
       let three = difference_word (read s) (read s) m (difference A B) (Un un.Word (flag_in Cf)) ((a + T - b) % T) (bit c % T) two (wc s Cf) in
       to_word _ _ _ (difference_in_two a b c small) three
 
-  sbb_leaves : does_alu alu.Sbb ≡ alu_done alu.Sbb s d b
+  sbb_leaves : does_alu alu.Sbb ≡ alu_effect alu.Sbb s d b
   sbb_leaves = difference_leaves _ _ _ _ sbb_word.small sbb_word borrows3
 
-  cmp_leaves : does_alu alu.Cmp ≡ alu_done alu.Cmp s d b
+  cmp_leaves : does_alu alu.Cmp ≡ alu_effect alu.Cmp s d b
   cmp_leaves =
       let r = words.difference a b false in
       let here : (now : State) → IsW now (difference A B) r = λ now. record { value = two_word.value; small = two_word.small; sort = refl } in
@@ -213,10 +212,10 @@ module _ (s : State) (m : ℕ → Val) (d : GeneralReg) (b : ℕ) (fits : Fits s
   zero_leaves : (now : State) → IsF now (Int (pos 0)) Zero
   zero_leaves now = record { value = refl }
 
-  logic_leaves : (op : BinOp) (r : ℕ) → IsW s (Bin op A B) r → apply s m (logic_equations op (Reg d) A B R) s ≡ finished d r Zero Zero s
+  logic_leaves : (op : BinOp) (r : ℕ) → IsW s (Bin op A B) r → apply s m (logic_equations op (Reg d) A B R) s ≡ result_state d r Zero Zero s
   logic_leaves op r is_r = finishes s m d (Bin op A B) (Int (pos 0)) (Int (pos 0)) r Zero Zero fits is_r (λ now h. zero_leaves now) (λ now h. zero_leaves now)
 
-  pub alu_leaves : (op : AluOp) → does_alu op ≡ alu_done op s d b
+  pub alu_leaves : (op : AluOp) → does_alu op ≡ alu_effect op s d b
   alu_leaves alu.Add = add_leaves
   alu_leaves alu.Adc = adc_leaves
   alu_leaves alu.Sub = sub_leaves
@@ -236,8 +235,8 @@ module _ (s : State) (m : ℕ → Val) (d : GeneralReg) (b : ℕ) (fits : Fits s
   before_word : (now : State) (r : GeneralReg) → IsW now (Before (Reg r)) (reg s r)
   before_word now r = record { value = refl; small = fits.each r; sort = refl }
 
-  pub imul_leaves : apply s m (gets (Reg d) (lower A B) ∷ sets Cf undefined ∷ sets Zf undefined ∷ sets Sf undefined ∷ sets Of undefined ∷ []) s ≡ multiplied s d b
-  imul_leaves = one_reg s s m d (lower A B) (words.lower a b) (sets Cf undefined ∷ sets Zf undefined ∷ sets Sf undefined ∷ sets Of undefined ∷ []) (lower_word s A a (wa s))
+  pub imul_leaves : apply s m (gets (Reg d) (lower A B) ∷ sets Cf undefined_flag ∷ sets Zf undefined_flag ∷ sets Sf undefined_flag ∷ sets Of undefined_flag ∷ []) s ≡ product_state s d b
+  imul_leaves = one_reg s s m d (lower A B) (words.lower a b) (sets Cf undefined_flag ∷ sets Zf undefined_flag ∷ sets Sf undefined_flag ∷ sets Of undefined_flag ∷ []) (lower_word s A a (wa s))
 
   pub mulx_leaves : (l : GeneralReg) → apply s m (gets (Reg d) (upper (Before (Reg Rdx)) B) ∷ gets (Reg l) (lower (Before (Reg Rdx)) B) ∷ []) s ≡ halves s d l b
   mulx_leaves l =
@@ -251,7 +250,7 @@ module _ (s : State) (m : ℕ → Val) (d : GeneralReg) (b : ℕ) (fits : Fits s
       let x = reg s Rax in
       let high = words.upper x b in
       let over : Exp = one_unless (Bin bin.Eq (After (Reg Rdx)) (W64 0)) in
-      let rest : List Equation = sets Cf over ∷ sets Zf undefined ∷ sets Sf undefined ∷ sets Of over ∷ [] in
+      let rest : List Equation = sets Cf over ∷ sets Zf undefined_flag ∷ sets Sf undefined_flag ∷ sets Of over ∷ [] in
       let now1 = set_reg Rax (words.lower x b) s in
       let now2 = set_reg Rdx high now1 in
       let now3 = set_flag Cf (flag_if (not (high == 0))) now2 in
@@ -263,10 +262,10 @@ module _ (s : State) (m : ℕ → Val) (d : GeneralReg) (b : ℕ) (fits : Fits s
       flag_unless (read s) (read now) m _ _ (equal (read s) (read now) m (After (Reg Rdx)) (W64 0) high 0 (record { value = ap Word h; small = small_high; sort = refl }) (constant (read s) (read now) m 0 (omega arith))) in
       one_reg s s m Rax (lower (Before (Reg Rax)) B) (words.lower x b) (gets (Reg Rdx) (upper (Before (Reg Rax)) B) ∷ rest) (lower_word s (Before (Reg Rax)) x (before_word s Rax))
       ∙ one_reg s now1 m Rdx (upper (Before (Reg Rax)) B) high rest (upper_half now1 (Before (Reg Rax)) x (before_word now1 Rax))
-      ∙ one_flag s now2 m Cf over (flag_if (not (high == 0))) (sets Zf undefined ∷ sets Sf undefined ∷ sets Of over ∷ []) (is_over now2 here)
+      ∙ one_flag s now2 m Cf over (flag_if (not (high == 0))) (sets Zf undefined_flag ∷ sets Sf undefined_flag ∷ sets Of over ∷ []) (is_over now2 here)
       ∙ one_flag s now4 m Of over (flag_if (not (high == 0))) [] (is_over now4 here)
 
-  pub carry_leaves : (f : FlagName) → apply s m (carry_equations f (Reg d) A B) s ≡ carried f s d b
+  pub carry_leaves : (f : FlagName) → apply s m (carry_equations f (Reg d) A B) s ≡ carry_state f s d b
   carry_leaves f =
       let r = words.sum a b (is_one (flag s f)) in
       one_reg s s m d (sum_with f A B) r (sets f (sum_with_reaches f A B) ∷ []) (three_word f)

@@ -6,7 +6,7 @@ use Rattle.x64_syntax.specs.declared.places.Place.{Place}
 use Rattle.x64_syntax.specs.declared.type_words.Sort.TheVariants as sort
 use Rattle.term_core.specs.Terms.{Tm, tm_sort}
 use Rattle.term_core.specs.Operators.{un_sort, bin_sort, counted_sort}
-use Rattle.term_core.specs.Value.{T, Val, Word, truth, un_value, shifted, counted_value, Functions, Assignment, value}
+use Rattle.term_core.specs.Value.{T, Val, Word, truth, un_value, shift_value, counted_value, Functions, Assignment, value}
 use Rattle.x64_meaning.specs.State.{place_sort}
 use Rattle.x64_meaning.specs.Exp.{Exp, Before, After, Loaded, Int, W64, Un, Bin, Ite, Shift, exp_sort, exp_value, exp_term, among, knows}
 use Rattle.term_core.proofs.Values.{IsOf, cast_twice, un_value-sorted, bin_value-sorted, choice-sorted}
@@ -76,4 +76,4 @@ exp_value-sorted b a m sb sa sm (W64 n) = ap Word (mod-eq_of_lt (mod_below n T (
 exp_value-sorted b a m sb sa sm (Un op e) = un_value-sorted op (exp_sort e) (exp_value b a m e)
 exp_value-sorted b a m sb sa sm (Bin op e f) = bin_value-sorted op (exp_sort e) (exp_value b a m e) (exp_value b a m f)
 exp_value-sorted b a m sb sa sm (Ite c e f) = choice-sorted (exp_sort e) (truth (exp_value b a m c)) (exp_value b a m e) (exp_value b a m f) (exp_value-sorted b a m sb sa sm e)
-exp_value-sorted b a m sb sa sm (Shift op n e) = cast_twice (counted_sort op) (shifted op n (exp_value b a m e))
+exp_value-sorted b a m sb sa sm (Shift op n e) = cast_twice (counted_sort op) (shift_value op n (exp_value b a m e))

@@ -10,7 +10,7 @@ use Rattle.x64_meaning.specs.declared.machine.Fault.{Fault}
 use Rattle.x64_meaning.specs.declared.machine.Fault.TheVariants.{Outside}
 use Rattle.x64_meaning.specs.State.{State}
 use Rattle.x64_meaning.specs.Run.{Outcome, Done, Faulted}
-use Rattle.x64_meaning.specs.Steps.{Steps, Foresees, WouldPut}
+use Rattle.x64_meaning.specs.inner.Steps.{Steps, Foresees, WouldPut}
 
 none_mapped : {A B : Type 0} (f : A → B) (o : Option A) → is_none (option_map f o) ≡ is_none o
 none_mapped f None = refl

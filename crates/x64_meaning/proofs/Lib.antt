@@ -8,6 +8,7 @@ pub mod Straight
 pub mod Numbers
 pub mod Parts
 pub mod Computes
+pub mod Plain
 pub mod Alone
 pub mod Sources
 pub mod Stepping

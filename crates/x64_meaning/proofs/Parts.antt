@@ -16,8 +16,7 @@ use Rattle.x64_meaning.specs.declared.machine.Flag.TheVariants.{Zero, One, Undef
 use Rattle.x64_meaning.specs.State.{flag_from, flag_number_of}
 use Rattle.x64_meaning.specs.Exp.{Exp, Int, W64, Un, Bin, exp_sort, exp_value}
 use Rattle.x64_meaning.specs.Table.{int_of, sum, difference, xor_of, one_if, one_unless, is_set, flag_in}
-use Rattle.x64_meaning.specs.Run.{is_one}
-use Rattle.x64_meaning.specs.Steps.{flag_if}
+use Rattle.x64_meaning.specs.inner.Steps.{is_one, flag_if}
 
 module _ (before after : Place → Val) (m : ℕ → Val) where
   abbrev val : Exp → Val

@@ -57,9 +57,7 @@ write-IsState s (Reg r) v ok = record {
   xmms = ok.xmms;
   xmms_fit = ok.xmms_fit;
   flags = ok.flags;
-  blocks_fit = ok.blocks_fit;
-  bytes_fit = ok.bytes_fit;
-  apart = ok.apart;
+  blocks = ok.blocks;
 }
 write-IsState s (Xmm x) v ok = record {
   regs = ok.regs;
@@ -67,9 +65,7 @@ write-IsState s (Xmm x) v ok = record {
   xmms = length-set s.xmms _ _ ∙ ok.xmms;
   xmms_fit = set-lt s.xmms _ _ T128 (omega (arith, ok.xmms, xmm_number_lt x)) (wide-lt v) ok.xmms_fit;
   flags = ok.flags;
-  blocks_fit = ok.blocks_fit;
-  bytes_fit = ok.bytes_fit;
-  apart = ok.apart;
+  blocks = ok.blocks;
 }
 write-IsState s (Flag f) v ok = record {
   regs = ok.regs;
@@ -77,9 +73,7 @@ write-IsState s (Flag f) v ok = record {
   xmms = ok.xmms;
   xmms_fit = ok.xmms_fit;
   flags = length-set s.flags _ _ ∙ ok.flags;
-  blocks_fit = ok.blocks_fit;
-  bytes_fit = ok.bytes_fit;
-  apart = ok.apart;
+  blocks = ok.blocks;
 }
 
 -- what is read has the sort of its place

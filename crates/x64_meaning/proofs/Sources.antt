@@ -15,8 +15,8 @@ use Rattle.x64_meaning.specs.declared.machine.Fault.{Fault}
 use Rattle.x64_meaning.specs.State.{State, read, write, load}
 use Rattle.x64_meaning.specs.Exp.{Exp, Before, After, Loaded, Int, W64, Un, Bin, Ite, Shift, exp_sort, exp_value, no_words}
 use Rattle.x64_meaning.specs.Table.{Equation, source, equations, load_size, apply}
-use Rattle.x64_meaning.specs.Run.{access, operand_access, moved, word_in, with_access, with_loaded, address}
-use Rattle.x64_meaning.specs.Steps.{Acts, loaded, sourced}
+use Rattle.x64_meaning.specs.Run.{access, operand_access, after_stack, word_in, with_access, with_loaded, address}
+use Rattle.x64_meaning.specs.inner.Steps.{Acts, load_result, source_word}
 use Rattle.x64_meaning.proofs.Numbers.{word_of-lt}
 
 -- the expression with another in place of the first word that is loaded
@@ -77,7 +77,7 @@ module _ (x : Exp) (is_word : exp_sort x ≡ sort.W64) where
 -- what holds of an instruction with a source operand
 pub record HasSource (i : Ins) (o : Opr) (es : List Equation) : Type 0 where
   pub accesses : (s : State) → access s i ≡ operand_access s i (source_memory o) None
-  pub stays : (s : State) → moved i s ≡ s
+  pub stays : (s : State) → after_stack i s ≡ s
   pub size : load_size i ≡ 8
   pub equations_are : equations i ≡ map (fill (source o)) es
 
@@ -94,7 +94,7 @@ err_is {f = f} e = ap part e where
   part (Err g) = g
 
 -- an instruction that takes its source's word does what it does with that word
-pub with_source : (s : State) (i : Ins) (o : Opr) (es : List Equation) (F : ℕ → State) → HasSource i o es → ((m : ℕ → Val) (b : ℕ) → b < T → m 0 ≡ Word b → apply s m es s ≡ F b) → (b : ℕ) (seen : Option Obs) → b < T → sourced s o ≡ Ok (b, seen) → Acts (with_access s i (access s i)) s (F b) (Ok seen)
+pub with_source : (s : State) (i : Ins) (o : Opr) (es : List Equation) (F : ℕ → State) → HasSource i o es → ((m : ℕ → Val) (b : ℕ) → b < T → m 0 ≡ Word b → apply s m es s ≡ F b) → (b : ℕ) (seen : Option Obs) → b < T → source_word s o ≡ Ok (b, seen) → Acts (with_access s i (access s i)) s (F b) (Ok seen)
 with_source s i (R r) es F has leaves b seen lt from =
     let p = ok_is from in
     let v = read s (Reg r) in
@@ -111,7 +111,7 @@ with_source s i (M x) es F has leaves b seen lt from =
     subst (λ y. Acts (with_access s i y) s (F b) (Ok seen)) (sym (has.accesses s))
     (subst (λ n. Acts (with_loaded s i a n (load s a n)) s (F b) (Ok seen)) (sym has.size) (by_load (load s a 8) from))
   where
-    by_load : (l : Option ℕ) → loaded (address s x) l ≡ Ok (b, seen) → Acts (with_loaded s i (address s x) 8 l) s (F b) (Ok seen)
+    by_load : (l : Option ℕ) → load_result (address s x) l ≡ Ok (b, seen) → Acts (with_loaded s i (address s x) 8 l) s (F b) (Ok seen)
     by_load None h = absurd cc
     by_load (Some n) h =
         let p = ok_is h in
@@ -121,7 +121,7 @@ with_source s i (M x) es F has leaves b seen lt from =
         (ap Ok (sym p.1), sym state)
 
 -- and faults where its source can't be read
-pub faults_alone : (s : State) (i : Ins) (o : Opr) → ((s : State) → access s i ≡ operand_access s i (source_memory o) None) → load_size i ≡ 8 → (f : Fault) → sourced s o ≡ Err f → Acts (with_access s i (access s i)) s s (Err f)
+pub faults_alone : (s : State) (i : Ins) (o : Opr) → ((s : State) → access s i ≡ operand_access s i (source_memory o) None) → load_size i ≡ 8 → (f : Fault) → source_word s o ≡ Err f → Acts (with_access s i (access s i)) s s (Err f)
 faults_alone s i (R r) accesses size f from = absurd cc
 faults_alone s i (Imm z) accesses size f from = absurd cc
 faults_alone s i (M x) accesses size f from =
@@ -129,6 +129,6 @@ faults_alone s i (M x) accesses size f from =
     subst (λ y. Acts (with_access s i y) s s (Err f)) (sym (accesses s))
     (subst (λ n. Acts (with_loaded s i a n (load s a n)) s s (Err f)) (sym size) (by_load (load s a 8) from))
   where
-    by_load : (l : Option ℕ) → loaded (address s x) l ≡ Err f → Acts (with_loaded s i (address s x) 8 l) s s (Err f)
+    by_load : (l : Option ℕ) → load_result (address s x) l ≡ Err f → Acts (with_loaded s i (address s x) 8 l) s s (Err f)
     by_load None h = (sym (ap Err (err_is h)), refl)
     by_load (Some n) h = absurd cc

@@ -21,9 +21,9 @@ use Rattle.x64_meaning.specs.declared.machine.Obs.{Obs}
 use Rattle.x64_meaning.specs.declared.machine.Fault.{Fault}
 use Rattle.x64_meaning.specs.State.{State, reg, load}
 use Rattle.x64_meaning.specs.Exp.{Before, After, Loaded, no_words}
-use Rattle.x64_meaning.specs.Table.{source, equations, gets, sets, undefined, lower, upper, alu_equations, product_equations, carry_equations, reads, memory_places}
-use Rattle.x64_meaning.specs.Run.{Outcome, Done, Faulted, No, access, with_access, with_loaded, with_flags, does, after, moved, word_in, first_undefined}
-use Rattle.x64_meaning.specs.Steps.{Acts, Steps, loaded, taken, computed, is_general, defined, set_reg, alu_done, multiplied, wide_product, halves, carried, Fits}
+use Rattle.x64_meaning.specs.Table.{is_general, source, equations, gets, sets, undefined_flag, lower, upper, alu_equations, product_equations, carry_equations, reads, memory_places}
+use Rattle.x64_meaning.specs.Run.{Outcome, Done, Faulted, No, access, with_access, with_loaded, with_flags, does, after, after_stack, word_in, first_undefined}
+use Rattle.x64_meaning.specs.inner.Steps.{Acts, Steps, load_result, input_word, effect, flag_fault, set_reg, alu_effect, product_state, wide_product, halves, carry_state, Fits}
 use Rattle.x64_meaning.proofs.Computes.{alu_leaves, imul_leaves, mul_leaves, mulx_leaves, carry_leaves, mov_leaves}
 use Rattle.x64_meaning.proofs.Alone.{one_leaves, shift_leaves, lea_leaves, cmov_leaves}
 use Rattle.x64_meaning.proofs.Sources.{fill, with_source, faults_alone, ok_is, err_is}
@@ -32,7 +32,7 @@ use Rattle.x64_meaning.proofs.Sources.{fill, with_source, faults_alone, ok_is, e
 alone : (s : State) (i : Ins) (b : ℕ) (seen : Option Obs) (new : State) → access s i ≡ No → after s no_words i ≡ new → ◌≡◌ {A = Result (ℕ × Option Obs) Fault} (Ok (0, None)) (Ok (b, seen)) → Acts (with_access s i (access s i)) s new (Ok seen)
 alone s i b seen new none_there leaves from = subst (λ x. Acts (with_access s i x) s new (Ok seen)) (sym none_there) (ap Ok (sym (ok_is from).1), sym leaves)
 
-popped : (s : State) (d : GeneralReg) (b : ℕ) (seen : Option Obs) → Fits s → b < T → (l : Option ℕ) → loaded (reg s Rsp) l ≡ Ok (b, seen) → Acts (with_loaded s (Pop d) (reg s Rsp) 8 l) s (computed (Pop d) s b) (Ok seen)
+popped : (s : State) (d : GeneralReg) (b : ℕ) (seen : Option Obs) → Fits s → b < T → (l : Option ℕ) → load_result (reg s Rsp) l ≡ Ok (b, seen) → Acts (with_loaded s (Pop d) (reg s Rsp) 8 l) s (effect (Pop d) s b) (Ok seen)
 popped s d b seen fits lt None h = absurd cc
 popped s d b seen fits lt (Some n) h =
     let p = ok_is h in
@@ -40,23 +40,23 @@ popped s d b seen fits lt (Some n) h =
     let same : Word (n % T) ≡ Word b = ap (λ k. Word (k % T)) p.0 ∙ ap Word (mod-eq_of_lt lt) in
     let put = mov_leaves s (word_in n) d b fits lt same in
     let rsp = mod-eq_of_lt (mod_below (reg t Rsp + 8) T (omega arith)) in
-    (ap Ok (sym p.1), sym (ap (moved (Pop d)) put ∙ ap (λ k. set_reg Rsp k t) rsp))
+    (ap Ok (sym p.1), sym (ap (after_stack (Pop d)) put ∙ ap (λ k. set_reg Rsp k t) rsp))
 
-not_popped : (s : State) (d : GeneralReg) (f : Fault) → (l : Option ℕ) → loaded (reg s Rsp) l ≡ Err f → Acts (with_loaded s (Pop d) (reg s Rsp) 8 l) s s (Err f)
+not_popped : (s : State) (d : GeneralReg) (f : Fault) → (l : Option ℕ) → load_result (reg s Rsp) l ≡ Err f → Acts (with_loaded s (Pop d) (reg s Rsp) 8 l) s s (Err f)
 not_popped s d f None h = (sym (ap Err (err_is h)), refl)
 not_popped s d f (Some n) h = absurd cc
 
 -- An instruction that took its word in leaves what it computes from it.
-pub act_does : (i : Ins) (s : State) (b : ℕ) (seen : Option Obs) → Fits s → b < T → is_general i ≡ true → ((m : Mem) (r : GeneralReg) → i ≡ Store m r → ⊥) → ((r : GeneralReg) → i ≡ Push r → ⊥) → taken s i ≡ Ok (b, seen) → Acts (with_access s i (access s i)) s (computed i s b) (Ok seen)
+pub act_does : (i : Ins) (s : State) (b : ℕ) (seen : Option Obs) → Fits s → b < T → is_general i ≡ true → ((m : Mem) (r : GeneralReg) → i ≡ Store m r → ⊥) → ((r : GeneralReg) → i ≡ Push r → ⊥) → input_word s i ≡ Ok (b, seen) → Acts (with_access s i (access s i)) s (effect i s b) (Ok seen)
 act_does (Store m r) s b seen fits lt general store push from = absurd (store m r refl)
 act_does (Push r) s b seen fits lt general store push from = absurd (push r refl)
 act_does (Mov d o) s b seen fits lt general store push from =
     with_source s (Mov d o) o (gets (Reg d) (Loaded 0) ∷ []) (λ b. set_reg d b s) (record { accesses = λ s. refl; stays = λ s. refl; size = refl; equations_are = refl }) (λ m b lt h. mov_leaves s m d b fits lt h) b seen lt from
-act_does (Lea d x) s b seen fits lt general store push from = alone s (Lea d x) b seen (computed (Lea d x) s b) refl (lea_leaves s no_words d fits x) from
-act_does (Cmov c d r) s b seen fits lt general store push from = alone s (Cmov c d r) b seen (computed (Cmov c d r) s b) refl (cmov_leaves s no_words d fits c r) from
+act_does (Lea d x) s b seen fits lt general store push from = alone s (Lea d x) b seen (effect (Lea d x) s b) refl (lea_leaves s no_words d fits x) from
+act_does (Cmov c d r) s b seen fits lt general store push from = alone s (Cmov c d r) b seen (effect (Cmov c d r) s b) refl (cmov_leaves s no_words d fits c r) from
 act_does (Pop d) s b seen fits lt general store push from = popped s d b seen fits lt (load s (reg s Rsp) 8) from
 act_does (Alu op d o) s b seen fits lt general store push from =
-    with_source s (Alu op d o) o (alu_equations op (Reg d) (Before (Reg d)) (Loaded 0) (After (Reg d))) (λ b. alu_done op s d b) (record { accesses = λ s. refl; stays = λ s. refl; size = refl; equations_are = alu_filled op }) (λ m b lt h. alu_leaves s m d b fits lt h op) b seen lt from
+    with_source s (Alu op d o) o (alu_equations op (Reg d) (Before (Reg d)) (Loaded 0) (After (Reg d))) (λ b. alu_effect op s d b) (record { accesses = λ s. refl; stays = λ s. refl; size = refl; equations_are = alu_filled op }) (λ m b lt h. alu_leaves s m d b fits lt h op) b seen lt from
   where
     alu_filled : (op : AluOp) → equations (Alu op d o) ≡ map (fill (source o)) (alu_equations op (Reg d) (Before (Reg d)) (Loaded 0) (After (Reg d)))
     alu_filled alu.Add = refl
@@ -67,20 +67,20 @@ act_does (Alu op d o) s b seen fits lt general store push from =
     alu_filled alu.And = refl
     alu_filled alu.Or = refl
     alu_filled alu.Xor = refl
-act_does (One op d) s b seen fits lt general store push from = alone s (One op d) b seen (computed (One op d) s b) refl (one_leaves s no_words d fits op) from
-act_does (Shift op d n) s b seen fits lt general store push from = alone s (Shift op d n) b seen (computed (Shift op d n) s b) refl (shift_leaves s no_words d fits op n) from
+act_does (One op d) s b seen fits lt general store push from = alone s (One op d) b seen (effect (One op d) s b) refl (one_leaves s no_words d fits op) from
+act_does (Shift op d n) s b seen fits lt general store push from = alone s (Shift op d n) b seen (effect (Shift op d n) s b) refl (shift_leaves s no_words d fits op n) from
 act_does (Imul d o) s b seen fits lt general store push from =
-    with_source s (Imul d o) o (gets (Reg d) (lower (Before (Reg d)) (Loaded 0)) ∷ sets Cf undefined ∷ sets Zf undefined ∷ sets Sf undefined ∷ sets Of undefined ∷ []) (λ b. multiplied s d b) (record { accesses = λ s. refl; stays = λ s. refl; size = refl; equations_are = refl }) (λ m b lt h. imul_leaves s m d b fits lt h) b seen lt from
+    with_source s (Imul d o) o (gets (Reg d) (lower (Before (Reg d)) (Loaded 0)) ∷ sets Cf undefined_flag ∷ sets Zf undefined_flag ∷ sets Sf undefined_flag ∷ sets Of undefined_flag ∷ []) (λ b. product_state s d b) (record { accesses = λ s. refl; stays = λ s. refl; size = refl; equations_are = refl }) (λ m b lt h. imul_leaves s m d b fits lt h) b seen lt from
 act_does (Mul o) s b seen fits lt general store push from =
     with_source s (Mul o) o (product_equations (Before (Reg Rax)) (Loaded 0)) (λ b. wide_product s b) (record { accesses = λ s. refl; stays = λ s. refl; size = refl; equations_are = refl }) (λ m b lt h. mul_leaves s m Rax b fits lt h) b seen lt from
 act_does (Mulx x y o) s b seen fits lt general store push from =
     with_source s (Mulx x y o) o (gets (Reg x) (upper (Before (Reg Rdx)) (Loaded 0)) ∷ gets (Reg y) (lower (Before (Reg Rdx)) (Loaded 0)) ∷ []) (λ b. halves s x y b) (record { accesses = λ s. refl; stays = λ s. refl; size = refl; equations_are = refl }) (λ m b lt h. mulx_leaves s m x b fits lt h y) b seen lt from
 act_does (Carry op d o) s b seen fits lt general store push from =
-    with_source s (Carry op d o) o (carry_equations (carry_flag op) (Reg d) (Before (Reg d)) (Loaded 0)) (λ b. carried (carry_flag op) s d b) (record { accesses = λ s. refl; stays = λ s. refl; size = refl; equations_are = refl }) (λ m b lt h. carry_leaves s m d b fits lt h (carry_flag op)) b seen lt from
+    with_source s (Carry op d o) o (carry_equations (carry_flag op) (Reg d) (Before (Reg d)) (Loaded 0)) (λ b. carry_state (carry_flag op) s d b) (record { accesses = λ s. refl; stays = λ s. refl; size = refl; equations_are = refl }) (λ m b lt h. carry_leaves s m d b fits lt h (carry_flag op)) b seen lt from
 act_does _ s b seen fits lt general store push from = absurd (false≢true general)
 
 -- It faults where its word can't be read.
-pub act_faults : (i : Ins) (s : State) (f : Fault) → taken s i ≡ Err f → Acts (with_access s i (access s i)) s s (Err f)
+pub act_faults : (i : Ins) (s : State) (f : Fault) → input_word s i ≡ Err f → Acts (with_access s i (access s i)) s s (Err f)
 act_faults (Mov d o) s f from = faults_alone s (Mov d o) o (λ s. refl) refl f from
 act_faults (Pop d) s f from = not_popped s d f (load s (reg s Rsp) 8) from
 act_faults (Alu op d o) s f from = faults_alone s (Alu op d o) o (λ s. refl) refl f from
@@ -140,24 +140,24 @@ module _ (i : Ins) (s : State) (law : (p : Place) → is_among (read_places i) p
   does_is = ap (λ p. with_flags s i (first_undefined p s)) (sym (flags_read i law))
 
   -- a flag that is undefined
-  pub step_open : (f : Fault) → defined first ≡ Err f → Steps (does i s) s s None (Err f)
+  pub step_open : (f : Fault) → flag_fault first ≡ Err f → Steps (does i s) s s None (Err f)
   step_open f h = subst (λ x. Steps x s s None (Err f)) (sym does_is) (by_flag first h)
     where
-      by_flag : (o : Option FlagName) → defined o ≡ Err f → Steps (with_flags s i o) s s None (Err f)
+      by_flag : (o : Option FlagName) → flag_fault o ≡ Err f → Steps (with_flags s i o) s s None (Err f)
       by_flag None e = absurd cc
       by_flag (Some g) e = (sym e, refl, refl)
 
   -- the flags are defined
-  pub step_done : (new : State) (seen : Option Obs) → defined first ≡ Ok tt → Acts (with_access s i (access s i)) s new (Ok seen) → Steps (does i s) s new seen (Ok tt)
+  pub step_done : (new : State) (seen : Option Obs) → flag_fault first ≡ Ok tt → Acts (with_access s i (access s i)) s new (Ok seen) → Steps (does i s) s new seen (Ok tt)
   step_done new seen h acts = subst (λ x. Steps x s new seen (Ok tt)) (sym does_is) (by_flag first h)
     where
-      by_flag : (o : Option FlagName) → defined o ≡ Ok tt → Steps (with_flags s i o) s new seen (Ok tt)
+      by_flag : (o : Option FlagName) → flag_fault o ≡ Ok tt → Steps (with_flags s i o) s new seen (Ok tt)
       by_flag None e = steps_ok (with_access s i (access s i)) s new seen acts
       by_flag (Some g) e = absurd cc
 
-  pub step_fault : (new : State) (f : Fault) → defined first ≡ Ok tt → Acts (with_access s i (access s i)) s new (Err f) → Steps (does i s) s new None (Err f)
+  pub step_fault : (new : State) (f : Fault) → flag_fault first ≡ Ok tt → Acts (with_access s i (access s i)) s new (Err f) → Steps (does i s) s new None (Err f)
   step_fault new f h acts = subst (λ x. Steps x s new None (Err f)) (sym does_is) (by_flag first h)
     where
-      by_flag : (o : Option FlagName) → defined o ≡ Ok tt → Steps (with_flags s i o) s new None (Err f)
+      by_flag : (o : Option FlagName) → flag_fault o ≡ Ok tt → Steps (with_flags s i o) s new None (Err f)
       by_flag None e = steps_err (with_access s i (access s i)) s new f acts
       by_flag (Some g) e = absurd cc

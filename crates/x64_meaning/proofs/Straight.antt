@@ -20,9 +20,9 @@ use Rattle.term_core.specs.Value.{Val, Word, Truth, cast, val_eq, Assignment, va
 use Rattle.x64_meaning.specs.State.{State, IsState, place_sort, read, reg}
 use Rattle.x64_meaning.specs.Exp.{Exp, no_words, exp_value, exp_term, among}
 use Rattle.x64_meaning.specs.Table.{Equation, equations, writes, reads, apply, in_order}
-use Rattle.x64_meaning.specs.Run.{access, operand_access, moved, first_undefined, with_access, with_flags, does, Done, Way, start, stepped, Ended, run, act, after_does, StandAt}
+use Rattle.x64_meaning.specs.Run.{access, operand_access, after_stack, first_undefined, with_access, with_flags, does, Done, Way, start, next_way, Ended, follow, ins_step, item_step, run, StandAt}
 use Rattle.x64_meaning.specs.Contract.{Contract, Worth, Post, Frame, Meets, SameRuns}
-use Rattle.x64_meaning.specs.Condition.{no_terms, no_functions, uses_stack, Versions, version, version_name, next_versions, hypothesis, hypotheses, end_versions, first_versions, straight_hyps, straight_goal, is_plain, unwritten, straight_items, StraightFits, Names, IsNamed}
+use Rattle.x64_meaning.specs.Condition.{no_terms, no_functions, uses_stack, Versions, version, version_name, next_versions, hypothesis, hypotheses, end_versions, first_versions, straight_hyps, straight_goal, is_plain, keeps_place, straight_items, StraightFits, Names, IsNamed}
 use Rattle.term_core.proofs.Values.{val_eq_same}
 use Rattle.x64_meaning.proofs.Reading.{read-sorted}
 use Rattle.x64_meaning.proofs.Standing.{stands_behind}
@@ -183,7 +183,7 @@ operand_alone s (Push r) h = absurd (false≢true (sym h))
 operand_alone s (Pop d) h = absurd (false≢true (sym h))
 operand_alone s _ h = refl
 
-not_moved : (i : Ins) (s : State) → uses_stack i ≡ false → moved i s ≡ s
+not_moved : (i : Ins) (s : State) → uses_stack i ≡ false → after_stack i s ≡ s
 not_moved (Push r) s h = absurd (false≢true (sym h))
 not_moved (Pop d) s h = absurd (false≢true (sym h))
 not_moved _ s h = refl
@@ -209,20 +209,20 @@ plain_does i s h =
 
 -- straight code runs to its end
 run_straight : (items : List Item) (is : List Ins) (at : ℕ) (w : Way) → list_all is_plain is ≡ true → StandAt items at (map item.Ins is ++ item.Ret ∷ []) → (n : ℕ) × (w' : Way) × (run items n at w ≡ Ended w') × (w'.state ≡ end_of w.state is)
-run_straight items [] at w plain has = (1, stepped w w.state [], ap (λ o. act items o (run items 0) at w) has.0, refl)
+run_straight items [] at w plain has = (1, next_way w w.state [], ap (λ o. follow w (item_step items o at w.state) (run items 0)) has.0, refl)
 run_straight items (i ∷ is) at w plain has =
     let p = and_parts (is_plain i) (list_all is_plain is) plain in
-    let w1 = stepped w (next w.state i) [] in
+    let w1 = next_way w (next w.state i) [] in
     let rest = run_straight items is (at + 1) w1 p.1 has.1 in
     let step : run items (suc rest.0) at w ≡ run items rest.0 (at + 1) w1 =
-    ap (λ o. act items o (run items rest.0) at w) has.0 ∙ ap (λ d. after_does d (run items rest.0) at w) (plain_does i w.state p.0) in
+    ap (λ o. follow w (item_step items o at w.state) (run items rest.0)) has.0 ∙ ap (λ d. follow w (ins_step d at) (run items rest.0)) (plain_does i w.state p.0) in
     (suc rest.0, rest.1, step ∙ rest.2, rest.3)
 
 -- a place that isn't written is as it was
-unwritten_same : (is : List Ins) (s : State) (p : Place) → unwritten is p ≡ true → read (end_of s is) p ≡ read s p
+unwritten_same : (is : List Ins) (s : State) (p : Place) → keeps_place is p ≡ true → read (end_of s is) p ≡ read s p
 unwritten_same [] s p h = refl
 unwritten_same (i ∷ is) s p h =
-    let b = and_parts (not (among (writes i) p)) (unwritten is p) h in
+    let b = and_parts (not (among (writes i) p)) (keeps_place is p) h in
     unwritten_same is (next s i) p b.1 ∙ apply-other s no_words (equations i) s p (not-true _ b.0)
 
 blocks_same : (is : List Ins) (s : State) → (end_of s is).blocks ≡ s.blocks
@@ -239,7 +239,7 @@ promises_hold (e ∷ es) is s ok plain small h = (goal_true is e s ok plain smal
 pub straight_named : (name : List ℕ) (is : List Ins) → list_all is_plain is ≡ true → length is < 2 ^ 64 → IsNamed is (straight_items name is) 0
 straight_named name is plain small s ok =
     let has = stands_behind (item.Entry name ∷ []) (map item.Ins is ++ item.Ret ∷ []) in
-    let r = run_straight (straight_items name is) is 1 (stepped (start s) s []) plain has in
+    let r = run_straight (straight_items name is) is 1 (next_way (start s) s []) plain has in
     let f = assignment-follows is s ok small in
     let names : Names is s (end_of s is) = record {
       assignment = assignment is s;
@@ -252,7 +252,7 @@ straight_named name is plain small s ok =
 pub straight_meets : (name : List ℕ) (is : List Ins) (c : Contract) → StraightFits is c → Meets c (straight_items name is) 0
 straight_meets name is c fits s ok pre =
     let items = straight_items name is in
-    let w0 = stepped (start s) s [] in
+    let w0 = next_way (start s) s [] in
     let body = map item.Ins is ++ item.Ret ∷ [] in
     let has = stands_behind (item.Entry name ∷ []) body in
     let r = run_straight items is 1 w0 fits.plain has in
@@ -273,20 +273,20 @@ record Alike (v w : Way) : Type 0 where
   steps : w.steps ≡ v.steps
   seen : w.seen ≡ v.seen
 
-one_more : (v w : Way) (s t : State) → Alike v w → Alike (stepped v s []) (stepped w t [])
+one_more : (v w : Way) (s t : State) → Alike v w → Alike (next_way v s []) (next_way w t [])
 one_more v w s t a = record { steps = ap (λ n. n + 1) a.steps; seen = ap (λ l. l ++ []) a.seen }
 
 alike_runs : (items : List Item) (is : List Ins) (at n : ℕ) (v w v' : Way) → list_all is_plain is ≡ true → StandAt items at (map item.Ins is ++ item.Ret ∷ []) → Alike v w → run items n at v ≡ Ended v' → (w' : Way) × (run items n at w ≡ Ended w') × Alike v' w'
 alike_runs items is at zero v w v' plain has a h = absurd cc
 alike_runs items [] at (suc n) v w v' plain has a h =
-    let ends : (u : Way) → run items (suc n) at u ≡ Ended (stepped u u.state []) = λ u. ap (λ o. act items o (run items n) at u) has.0 in
+    let ends : (u : Way) → run items (suc n) at u ≡ Ended (next_way u u.state []) = λ u. ap (λ o. follow u (item_step items o at u.state) (run items n)) has.0 in
     let same = ended_is _ _ (sym (ends v) ∙ h) in
-    (stepped w w.state [], ends w, subst (λ u. Alike u (stepped w w.state [])) same (one_more v w v.state w.state a))
+    (next_way w w.state [], ends w, subst (λ u. Alike u (next_way w w.state [])) same (one_more v w v.state w.state a))
 alike_runs items (i ∷ is) at (suc n) v w v' plain has a h =
     let p = and_parts (is_plain i) (list_all is_plain is) plain in
-    let goes_on : (u : Way) → run items (suc n) at u ≡ run items n (at + 1) (stepped u (next u.state i) []) = λ u.
-    ap (λ o. act items o (run items n) at u) has.0 ∙ ap (λ d. after_does d (run items n) at u) (plain_does i u.state p.0) in
-    let rest = alike_runs items is (at + 1) n (stepped v (next v.state i) []) (stepped w (next w.state i) []) v' p.1 has.1 (one_more v w (next v.state i) (next w.state i) a) (sym (goes_on v) ∙ h) in
+    let goes_on : (u : Way) → run items (suc n) at u ≡ run items n (at + 1) (next_way u (next u.state i) []) = λ u.
+    ap (λ o. follow u (item_step items o at u.state) (run items n)) has.0 ∙ ap (λ d. follow u (ins_step d at) (run items n)) (plain_does i u.state p.0) in
+    let rest = alike_runs items is (at + 1) n (next_way v (next v.state i) []) (next_way w (next w.state i) []) v' p.1 has.1 (one_more v w (next v.state i) (next w.state i) a) (sym (goes_on v) ∙ h) in
     (rest.0, goes_on w ∙ rest.1, rest.2)
 
 pub straight_runs : (name : List ℕ) (is : List Ins) (c : Contract) → StraightFits is c → SameRuns c (straight_items name is) 0
@@ -294,6 +294,6 @@ straight_runs name is c fits s t oks okt pres pret agree zero v h = absurd cc
 straight_runs name is c fits s t oks okt pres pret agree (suc n) v h =
     let items = straight_items name is in
     let has = stands_behind (item.Entry name ∷ []) (map item.Ins is ++ item.Ret ∷ []) in
-    let begun : Alike (stepped (start s) s []) (stepped (start t) t []) = record { steps = refl; seen = refl } in
-    let r = alike_runs items is 1 n (stepped (start s) s []) (stepped (start t) t []) v fits.plain has begun h in
+    let begun : Alike (next_way (start s) s []) (next_way (start t) t []) = record { steps = refl; seen = refl } in
+    let r = alike_runs items is 1 n (next_way (start s) s []) (next_way (start t) t []) v fits.plain has begun h in
     (r.0, r.1, r.2.steps, r.2.seen)

@@ -80,8 +80,8 @@ is_plain i =
     && not (reads i (Flag Cf)) && not (reads i (Flag Zf)) && not (reads i (Flag Sf)) && not (reads i (Flag Of))
 
 -- no instruction of straight code writes the place
-abbrev pub unwritten : List Ins → Place → Bool
-unwritten is p = list_all (λ i. not (among (writes i) p)) is
+abbrev pub keeps_place : List Ins → Place → Bool
+keeps_place is p = list_all (λ i. not (among (writes i) p)) is
 
 -- straight code as flat items: its entry, its instructions and `ret`
 abbrev pub straight_items : List ℕ → List Ins → List Item
@@ -92,7 +92,7 @@ straight_items name is = item.Entry name ∷ (map item.Ins is ++ item.Ret ∷ []
 pub record StraightFits (is : List Ins) (c : Contract) : Type 0 where
   pub plain : list_all is_plain is ≡ true
   pub short : length is < 2 ^ 64
-  pub declared : (p : Place) → c.modifies p ≡ false → unwritten is p ≡ true
+  pub declared : (p : Place) → c.modifies p ≡ false → keeps_place is p ≡ true
   pub rsp : c.modifies (Reg Rsp) ≡ false
   pub proved : AllByRecursion (λ e. True no_functions (straight_hyps is) (straight_goal is e)) c.ensures_
 

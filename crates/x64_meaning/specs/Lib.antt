@@ -4,4 +4,4 @@ pub mod Table
 pub mod Run
 pub mod Contract
 pub mod Condition
-pub mod Steps
+pub mod inner

@@ -1,8 +1,7 @@
 -- What one instruction does, and runs of flat code.
-use Rattle.std.specs.Prelude.{◌≡◌, ℕ, zero, suc, ◌+◌, ◌-◌, ◌*◌, ◌/◌, ◌%◌, length, Bool, true, false, not, ◌&&◌, ◌||◌, ◌==◌, List, [], ◌∷◌, ◌++◌, Option, Some, None, slice_get, position}
+use Rattle.std.specs.Prelude.{◌≡◌, ℕ, zero, suc, ◌+◌, ◌-◌, ◌/◌, ◌%◌, length, Bool, true, false, ◌&&◌, ◌==◌, List, [], ◌∷◌, ◌++◌, Option, Some, None, slice_get, position}
 use Rattle.std.specs.List.{find}
 use Rattle.std.specs.Int.{to_le_bytes, w64}
-use Rattle.x64_syntax.specs.declared.places.Reg.{Reg as GeneralReg}
 use Rattle.x64_syntax.specs.declared.places.Reg.TheVariants.{Rsp}
 use Rattle.x64_syntax.specs.declared.places.FlagName.{FlagName}
 use Rattle.x64_syntax.specs.declared.places.FlagName.TheVariants.{Cf, Zf, Sf, Of}
@@ -13,10 +12,9 @@ use Rattle.x64_syntax.specs.declared.instructions.Ins.TheVariants.{Push, Pop}
 use Rattle.x64_syntax.specs.Instructions.{cond_flags, loads_from, stores_to}
 use Rattle.x64_blocks.specs.Memory.{Range, store}
 use Rattle.x64_syntax.specs.declared.conditions.Cond.{Cond}
-use Rattle.x64_syntax.specs.declared.conditions.Cond.TheVariants.{E, Ne, B, Be, A, Ae}
 use Rattle.x64_syntax.specs.declared.items.Item.{Item}
 use Rattle.x64_syntax.specs.declared.items.Item.TheVariants as item
-use Rattle.term_core.specs.Value.{T, Val, Word, word, word_of}
+use Rattle.term_core.specs.Value.{T, Val, Word, word, truth}
 use Rattle.x64_meaning.specs.declared.machine.Flag.{Flag as FlagValue}
 use Rattle.x64_meaning.specs.declared.machine.Flag.TheVariants.{Zero, One, Undefined}
 use Rattle.x64_meaning.specs.declared.machine.Obs.{Obs}
@@ -25,15 +23,15 @@ use Rattle.x64_meaning.specs.declared.machine.Fault.{Fault}
 use Rattle.x64_meaning.specs.declared.machine.Fault.TheVariants.{Outside, UndefinedFlag}
 use Rattle.x64_meaning.specs.State.{State, flag, reg, read, write, load}
 use Rattle.x64_meaning.specs.Exp.{Exp, exp_value, no_words}
-use Rattle.x64_meaning.specs.Table.{equations, stored, load_size, apply, reads}
+use Rattle.x64_meaning.specs.Table.{holds, address_of, equations, stored_words, load_size, apply, reads}
 
--- scale * index, or 0 where there is no index
-abbrev pub scaled : State → Option (GeneralReg × ℕ) → ℕ
-scaled s None = 0
-scaled s (Some i) = i.1 * reg s i.0
+-- the value of an expression over one state
+abbrev pub value_in : State → Exp → Val
+value_in s e = exp_value (read s) (read s) no_words e
 
+-- the address of a memory operand, as in the table
 abbrev pub address : State → Mem → ℕ
-address s m = (reg s m.base + scaled s m.index + word_of m.disp) % T
+address s m = word (value_in s (address_of m))
 
 abbrev pub is_undefined : FlagValue → Bool
 is_undefined Zero = false
@@ -67,10 +65,10 @@ access s (Pop d) = Loads (reg s Rsp) 8
 access s i = operand_access s i (loads_from i) (stores_to i)
 
 -- the stack pointer after an instruction
-abbrev pub moved : Ins → State → State
-moved (Push r) s = write s (Reg Rsp) (Word ((reg s Rsp + (T - 8)) % T))
-moved (Pop d) s = write s (Reg Rsp) (Word ((reg s Rsp + 8) % T))
-moved i s = s
+abbrev pub after_stack : Ins → State → State
+after_stack (Push r) s = write s (Reg Rsp) (Word ((reg s Rsp + (T - 8)) % T))
+after_stack (Pop d) s = write s (Reg Rsp) (Word ((reg s Rsp + 8) % T))
+after_stack i s = s
 
 -- the words of a number, the lowest first
 abbrev pub word_in : ℕ → ℕ → Val
@@ -79,12 +77,12 @@ word_in n (suc k) = word_in (n / T) k
 
 -- the state after, by the words that are loaded
 abbrev pub after : State → (ℕ → Val) → Ins → State
-after s loaded i = moved i (apply s loaded (equations i) s)
+after s loaded i = after_stack i (apply s loaded (equations i) s)
 
 -- the bytes of the words that are stored
 abbrev pub bytes_of : State → List Exp → List ℕ
 bytes_of s [] = []
-bytes_of s (e ∷ es) = to_le_bytes w64 (word (exp_value (read s) (read s) no_words e)) ++ bytes_of s es
+bytes_of s (e ∷ es) = to_le_bytes w64 (word (value_in s e)) ++ bytes_of s es
 
 abbrev pub with_loaded : State → Ins → ℕ → ℕ → Option ℕ → Outcome
 with_loaded s i a size None = Faulted (Outside a)
@@ -97,7 +95,7 @@ with_stored s i a size (Some bs) = Done (record (after s no_words i) { blocks = 
 abbrev pub with_access : State → Ins → Access → Outcome
 with_access s i No = Done (after s no_words i) []
 with_access s i (Loads a size) = with_loaded s i a size (load s a size)
-with_access s i (Stores a) = with_stored s i a (length (bytes_of s (stored i))) (store s.blocks a (bytes_of s (stored i)))
+with_access s i (Stores a) = with_stored s i a (length (bytes_of s (stored_words i))) (store s.blocks a (bytes_of s (stored_words i)))
 
 abbrev pub with_flags : State → Ins → Option FlagName → Outcome
 with_flags s i (Some f) = Faulted (UndefinedFlag f)
@@ -109,19 +107,50 @@ with_flags s i None = with_access s i (access s i)
 abbrev pub does : Ins → State → Outcome
 does i s = with_flags s i (first_undefined (λ f. reads i (Flag f)) s)
 
-abbrev pub is_one : FlagValue → Bool
-is_one Zero = false
-is_one One = true
-is_one Undefined = false
-
--- whether a condition holds
+-- whether a condition holds, as in the table
 abbrev pub cond_holds : Cond → State → Bool
-cond_holds E s = is_one (flag s Zf)
-cond_holds Ne s = not (is_one (flag s Zf))
-cond_holds B s = is_one (flag s Cf)
-cond_holds Ae s = not (is_one (flag s Cf))
-cond_holds Be s = is_one (flag s Cf) || is_one (flag s Zf)
-cond_holds A s = not (is_one (flag s Cf)) && not (is_one (flag s Zf))
+cond_holds c s = truth (value_in s (holds c))
+
+-- One step: it goes on at a position, with the state that it leaves and with what is seen of it; it ends the run; it can't
+-- be made; or it leaves the list.
+pub data Step : Type 0 where
+  GoesOn : ℕ → State → List Obs → Step
+  Ends : Step
+  Stops : Fault → Step
+  Leaves : Step
+
+abbrev pub is_label : ℕ → Item → Bool
+is_label l (item.Label m) = l == m
+is_label l _ = false
+
+-- a step to a label
+abbrev pub label_step : Option ℕ → State → List Obs → Step
+label_step None s seen = Leaves
+label_step (Some pos) s seen = GoesOn pos s seen
+
+abbrev pub ins_step : Outcome → ℕ → Step
+ins_step (Done s seen) pos = GoesOn (pos + 1) s seen
+ins_step (Faulted f) pos = Stops f
+
+-- a conditional jump, by the first flag that it reads and that is undefined, and by whether its condition holds
+abbrev pub branch_step : Option FlagName → Bool → Option ℕ → ℕ → State → Step
+branch_step (Some f) is_met target pos s = Stops (UndefinedFlag f)
+branch_step None true target pos s = label_step target s (Branch true ∷ [])
+branch_step None false target pos s = GoesOn (pos + 1) s (Branch false ∷ [])
+
+-- by the item at the position; labels and entries do nothing, and `ret` ends the run
+abbrev pub item_step : List Item → Option Item → ℕ → State → Step
+item_step items None pos s = Leaves
+item_step items (Some (item.Ins i)) pos s = ins_step (does i s) pos
+item_step items (Some (item.Label l)) pos s = GoesOn (pos + 1) s []
+item_step items (Some (item.Entry name)) pos s = GoesOn (pos + 1) s []
+item_step items (Some (item.Jmp l)) pos s = label_step (position (is_label l) items) s []
+item_step items (Some (item.Jcc c l)) pos s =
+    branch_step (find (λ f. is_undefined (flag s f)) (cond_flags c)) (cond_holds c s) (position (is_label l) items) pos s
+item_step items (Some item.Ret) pos s = Ends
+
+abbrev pub step : List Item → ℕ → State → Step
+step items pos s = item_step items (slice_get items pos) pos s
 
 -- the state of a run, what was seen so far, and how many steps were made
 pub record Way : Type 0 where
@@ -132,9 +161,9 @@ pub record Way : Type 0 where
 abbrev pub start : State → Way
 start s = record { state = s; seen = []; steps = 0 }
 
--- one more step
-abbrev pub stepped : Way → State → List Obs → Way
-stepped w s seen = record { state = s; seen = w.seen ++ seen; steps = w.steps + 1 }
+-- the way after one more step
+abbrev pub next_way : Way → State → List Obs → Way
+next_way w s seen = record { state = s; seen = w.seen ++ seen; steps = w.steps + 1 }
 
 -- how a run stands after at most so many steps
 pub data End : Type 0 where
@@ -143,43 +172,17 @@ pub data End : Type 0 where
   Stopped : Fault → End
   Past : End
 
-abbrev pub is_label : ℕ → Item → Bool
-is_label l (item.Label m) = l == m
-is_label l _ = false
-
-abbrev pub Next : Type 0
-Next = ℕ → Way → End
-
--- goes on at a label
-abbrev pub at_label : Option ℕ → Next → Way → End
-at_label None next w = Past
-at_label (Some pos) next w = next pos w
-
-abbrev pub after_does : Outcome → Next → ℕ → Way → End
-after_does (Done s seen) next pos w = next (pos + 1) (stepped w s seen)
-after_does (Faulted f) next pos w = Stopped f
-
--- a conditional jump, by the first flag that it reads and that is undefined, and by whether its condition holds
-abbrev pub branch : Option FlagName → Bool → Option ℕ → Next → ℕ → Way → End
-branch (Some f) holds target next pos w = Stopped (UndefinedFlag f)
-branch None true target next pos w = at_label target next (stepped w w.state (Branch true ∷ []))
-branch None false target next pos w = next (pos + 1) (stepped w w.state (Branch false ∷ []))
-
--- one item, by what goes on behind it; labels and entries do nothing, and `ret` ends the run
-abbrev pub act : List Item → Option Item → Next → ℕ → Way → End
-act items None next pos w = Past
-act items (Some (item.Ins i)) next pos w = after_does (does i w.state) next pos w
-act items (Some (item.Label l)) next pos w = next (pos + 1) (stepped w w.state [])
-act items (Some (item.Entry name)) next pos w = next (pos + 1) (stepped w w.state [])
-act items (Some (item.Jmp l)) next pos w = at_label (position (is_label l) items) next (stepped w w.state [])
-act items (Some (item.Jcc c l)) next pos w =
-    branch (find (λ f. is_undefined (flag w.state f)) (cond_flags c)) (cond_holds c w.state) (position (is_label l) items) next pos w
-act items (Some item.Ret) next pos w = Ended (stepped w w.state [])
+-- what follows a step
+abbrev pub follow : Way → Step → (ℕ → Way → End) → End
+follow w (GoesOn pos s seen) next = next pos (next_way w s seen)
+follow w Ends next = Ended (next_way w w.state [])
+follow w (Stops f) next = Stopped f
+follow w Leaves next = Past
 
 -- at most so many steps from a position
-abbrev pub run : List Item → ℕ → Next
+abbrev pub run : List Item → ℕ → ℕ → Way → End
 run items zero pos w = Running pos w
-run items (suc n) pos w = act items (slice_get items pos) (run items n) pos w
+run items (suc n) pos w = follow w (step items pos w.state) (run items n)
 
 -- these items stand in a list from a position on
 abbrev pub StandAt : List Item → ℕ → List Item → Type 0

@@ -1,11 +1,11 @@
 -- States of the machine: 16 words of 64 bits, 16 of 128 bits, four flags, and blocks of memory that lie apart.
-use Rattle.std.specs.Prelude.{◌≡◌, ℕ, zero, suc, ◌+◌, ◌<◌, ◌≤◌, ℤ, pos, List, [], length, Option, slice_index, slice_index_or, slice_set}
+use Rattle.std.specs.Prelude.{◌≡◌, ℕ, zero, suc, ◌<◌, ℤ, pos, List, length, Option, slice_index, slice_index_or, slice_set}
 use Rattle.x64_syntax.specs.declared.places.Reg.{Reg as GeneralReg}
 use Rattle.x64_syntax.specs.declared.places.FlagName.{FlagName}
 use Rattle.x64_syntax.specs.declared.places.Place.{Place}
 use Rattle.x64_syntax.specs.declared.places.Place.TheVariants.{Reg, Xmm, Flag}
 use Rattle.x64_syntax.specs.Places.{reg_number, xmm_number, flag_number}
-use Rattle.x64_blocks.specs.Memory.{Range, load as load_in}
+use Rattle.x64_blocks.specs.Memory.{Range, IsMemory, load as load_in}
 use Rattle.x64_syntax.specs.declared.type_words.Sort.{Sort}
 use Rattle.x64_syntax.specs.declared.type_words.Sort.TheVariants as sort
 use Rattle.term_core.specs.Value.{T, T128, Val, Whole, Word, Wide, whole, word, wide}
@@ -18,25 +18,14 @@ pub record State : Type 0 where
   pub flags : List FlagValue
   pub blocks : List Range
 
--- the block of a number, and an empty one past the last
-abbrev pub block_at : State → ℕ → Range
-block_at s k = slice_index_or s.blocks k record { base = 0; bytes = [] }
-
--- the address lies in the block
-pub record Covers (b : Range) (a : ℕ) : Type 0 where
-  pub from : b.base ≤ a
-  pub below : a < b.base + length b.bytes
-
--- the numbers fit, blocks end at or below 2^64, and no address lies in two blocks
+-- the numbers fit, and the blocks are a memory
 pub record IsState (s : State) : Type 0 where
   pub regs : length s.regs ≡ 16
   pub regs_fit : (k : ℕ) → slice_index s.regs k < T
   pub xmms : length s.xmms ≡ 16
   pub xmms_fit : (k : ℕ) → slice_index s.xmms k < T128
   pub flags : length s.flags ≡ 4
-  pub blocks_fit : (k : ℕ) → (block_at s k).base + length (block_at s k).bytes ≤ T
-  pub bytes_fit : (k i : ℕ) → slice_index (block_at s k).bytes i < 256
-  pub apart : (a j k : ℕ) → Covers (block_at s j) a → Covers (block_at s k) a → j ≡ k
+  pub blocks : IsMemory s.blocks
 
 abbrev pub flag_number_of : FlagValue → ℕ
 flag_number_of Zero = 0

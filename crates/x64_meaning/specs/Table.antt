@@ -80,8 +80,8 @@ abbrev pub reaches : ℕ → Exp → Exp
 reaches n e = one_if (Bin bin.Le (Int (pos n)) e)
 
 -- a flag that is undefined
-abbrev pub undefined : Exp
-undefined = Int (pos 2)
+abbrev pub undefined_flag : Exp
+undefined_flag = Int (pos 2)
 
 -- the flag is 1
 abbrev pub is_set : FlagName → Exp
@@ -156,11 +156,11 @@ abbrev pub bit_of : ℕ → Exp → Exp
 bit_of m a = one_if (Bin bin.Eq (Bin bin.And (exp.Shift counted.Shr m a) (W64 1)) (W64 1))
 
 abbrev pub rotates : CountedOp → Place → ℕ → Exp → List Equation
-rotates op d n a = gets d (exp.Shift op n a) ∷ sets Cf undefined ∷ sets Of undefined ∷ []
+rotates op d n a = gets d (exp.Shift op n a) ∷ sets Cf undefined_flag ∷ sets Of undefined_flag ∷ []
 
 abbrev pub shift_equations : ShiftOp → Place → ℕ → Exp → Exp → List Equation
-shift_equations shift.Shl d n a r = gets d (exp.Shift counted.Shl n a) ∷ flags_of r (bit_of (64 - n) a) undefined
-shift_equations shift.Shr d n a r = gets d (exp.Shift counted.Shr n a) ∷ flags_of r (bit_of (n - 1) a) undefined
+shift_equations shift.Shl d n a r = gets d (exp.Shift counted.Shl n a) ∷ flags_of r (bit_of (64 - n) a) undefined_flag
+shift_equations shift.Shr d n a r = gets d (exp.Shift counted.Shr n a) ∷ flags_of r (bit_of (n - 1) a) undefined_flag
 shift_equations shift.Rol d n a r = rotates counted.Rol d n a
 shift_equations shift.Ror d n a r = rotates counted.Ror d n a
 
@@ -175,7 +175,7 @@ upper a s = Bin bin.Mulhi a s
 abbrev pub product_equations : Exp → Exp → List Equation
 product_equations a s =
     gets (Reg Rax) (lower a s) ∷ gets (Reg Rdx) (upper a s)
-    ∷ sets Cf (one_unless (Bin bin.Eq (After (Reg Rdx)) (W64 0))) ∷ sets Zf undefined ∷ sets Sf undefined
+    ∷ sets Cf (one_unless (Bin bin.Eq (After (Reg Rdx)) (W64 0))) ∷ sets Zf undefined_flag ∷ sets Sf undefined_flag
     ∷ sets Of (one_unless (Bin bin.Eq (After (Reg Rdx)) (W64 0))) ∷ []
 
 abbrev pub carry_equations : FlagName → Place → Exp → Exp → List Equation
@@ -208,13 +208,13 @@ x_shift xshift.Pslldq = counted.Pslldq
 x_shift xshift.Psrldq = counted.Psrldq
 
 -- a register put into one of the words, and one of them taken
-abbrev pub inserted : ℕ → Exp → Exp → Exp
-inserted zero a s = pair (high a) s
-inserted _ a s = pair s (low a)
+abbrev pub insertion : ℕ → Exp → Exp → Exp
+insertion zero a s = pair (high a) s
+insertion _ a s = pair s (low a)
 
-abbrev pub extracted : ℕ → Exp → Exp
-extracted zero s = low s
-extracted _ s = high s
+abbrev pub extraction : ℕ → Exp → Exp
+extraction zero s = low s
+extraction _ s = high s
 
 -- the address of a memory operand, modulo 2^64
 abbrev pub scaled_of : Exp → Option (GeneralReg × ℕ) → Exp
@@ -236,7 +236,7 @@ equations (One op d) = one_equations op (Reg d) (Before (Reg d)) (After (Reg d))
 equations (Shift op d n) = shift_equations op (Reg d) n (Before (Reg d)) (After (Reg d))
 equations (Imul d s) =
     gets (Reg d) (lower (Before (Reg d)) (source s))
-    ∷ sets Cf undefined ∷ sets Zf undefined ∷ sets Sf undefined ∷ sets Of undefined ∷ []
+    ∷ sets Cf undefined_flag ∷ sets Zf undefined_flag ∷ sets Sf undefined_flag ∷ sets Of undefined_flag ∷ []
 equations (Mul s) = product_equations (Before (Reg Rax)) (source s)
 equations (Mulx h l s) =
     gets (Reg h) (upper (Before (Reg Rdx)) (source s)) ∷ gets (Reg l) (lower (Before (Reg Rdx)) (source s)) ∷ []
@@ -247,16 +247,29 @@ equations (XStore m s) = []
 equations (XBin op d s) = gets (Xmm d) (x_bin op (Before (Xmm d)) (Before (Xmm s))) ∷ []
 equations (XShuf d s n) = gets (Xmm d) (exp.Shift counted.Pshufd n (Before (Xmm s))) ∷ []
 equations (XShift op d n) = gets (Xmm d) (exp.Shift (x_shift op) n (Before (Xmm d))) ∷ []
-equations (XIns d s n) = gets (Xmm d) (inserted n (Before (Xmm d)) (Before (Reg s))) ∷ []
-equations (XExt d s n) = gets (Reg d) (extracted n (Before (Xmm s))) ∷ []
+equations (XIns d s n) = gets (Xmm d) (insertion n (Before (Xmm d)) (Before (Reg s))) ∷ []
+equations (XExt d s n) = gets (Reg d) (extraction n (Before (Xmm s))) ∷ []
 equations (XMovq d s) = gets (Xmm d) (pair (W64 0) (Before (Reg s))) ∷ []
 
 -- the words that are stored, at the memory operand or on the stack, the lowest first
-abbrev pub stored : Ins → List Exp
-stored (Store m s) = Before (Reg s) ∷ []
-stored (Push s) = Before (Reg s) ∷ []
-stored (XStore m s) = low (Before (Xmm s)) ∷ high (Before (Xmm s)) ∷ []
-stored _ = []
+abbrev pub stored_words : Ins → List Exp
+stored_words (Store m s) = Before (Reg s) ∷ []
+stored_words (Push s) = Before (Reg s) ∷ []
+stored_words (XStore m s) = low (Before (Xmm s)) ∷ high (Before (Xmm s)) ∷ []
+stored_words _ = []
+
+-- the instructions on general registers, flags and memory
+abbrev pub is_general : Ins → Bool
+is_general (XMov d s) = false
+is_general (XLoad d m) = false
+is_general (XStore m s) = false
+is_general (XBin op d s) = false
+is_general (XShuf d s n) = false
+is_general (XShift op d n) = false
+is_general (XIns d s n) = false
+is_general (XExt d s n) = false
+is_general (XMovq d s) = false
+is_general i = true
 
 -- how many bytes are loaded
 abbrev pub load_size : Ins → ℕ
@@ -269,7 +282,7 @@ writes i = map (λ e. e.place) (equations i)
 
 -- an instruction reads the value before of the place
 abbrev pub reads : Ins → Place → Bool
-reads i p = list_any (λ e. takes p e.right) (equations i) || list_any (takes p) (stored i)
+reads i p = list_any (λ e. takes p e.right) (equations i) || list_any (takes p) (stored_words i)
 
 -- the base and index registers of the memory operand of an access
 abbrev pub memory_places : Option Mem → List Place

@@ -2,8 +2,7 @@
 
 ghost use Rattle.std.specs.Prelude.{◌≡◌, ◌≤◌, ◌<◌, not, ◌==◌, bit_and, bit_xor};
 ghost use Rattle.x64_meaning.specs.State.{flag};
-ghost use Rattle.x64_meaning.specs.Run.{is_one};
-ghost use Rattle.x64_meaning.specs.Steps.{flag_if, negative, bit_at, with_result, finished, summed, difference_overflows, subtracted, compared, alu_done, one_done, rotated, shift_done, multiplied, wide_product, halves, carried};
+ghost use Rattle.x64_meaning.specs.inner.Steps.{is_one, flag_if, negative, bit_at, with_result, result_state, sum_state, difference_overflows, difference_state, comparison_state, alu_effect, one_effect, rotation_state, shift_effect, product_state, wide_product, halves, carry_state};
 
 use crate::machine::{Flag, Machine};
 use word_ops::{add_carry, mul_wide, rotate_left, rotate_right, sub_borrow};
@@ -48,14 +47,14 @@ fn set_result(m: &mut Machine, r: u64, carry: Flag, overflow: Flag)
 
 // Puts a result into a register and sets its flags.
 fn finish(m: &mut Machine, d: Reg, r: u64, carry: Flag, overflow: Flag)
-    ensures { m.new ≡ finished d r carry overflow m.old }
+    ensures { m.new ≡ result_state d r carry overflow m.old }
 {
     m.regs[d.number()] = r;
     set_result(m, r, carry, overflow);
 }
 
 fn sum(m: &mut Machine, d: Reg, b: u64, c: bool)
-    ensures { m.new ≡ summed m.old d b c }
+    ensures { m.new ≡ sum_state m.old d b c }
 {
     let a = m.regs[d.number()];
     let (r, carry) = add_carry(a, b, c);
@@ -70,7 +69,7 @@ fn difference_overflows(a: u64, b: u64, r: u64) -> Flag
 }
 
 fn subtract(m: &mut Machine, d: Reg, b: u64, c: bool)
-    ensures { m.new ≡ subtracted m.old d b c }
+    ensures { m.new ≡ difference_state m.old d b c }
 {
     let a = m.regs[d.number()];
     let (r, borrow) = sub_borrow(a, b, c);
@@ -78,7 +77,7 @@ fn subtract(m: &mut Machine, d: Reg, b: u64, c: bool)
 }
 
 fn compare(m: &mut Machine, d: Reg, b: u64)
-    ensures { m.new ≡ compared m.old d b }
+    ensures { m.new ≡ comparison_state m.old d b }
 {
     let a = m.regs[d.number()];
     let (r, borrow) = sub_borrow(a, b, false);
@@ -87,7 +86,7 @@ fn compare(m: &mut Machine, d: Reg, b: u64)
 
 /// Combines a register with a word.
 pub(crate) fn alu(m: &mut Machine, op: AluOp, d: Reg, b: u64)
-    ensures { m.new ≡ alu_done op m.old d b }
+    ensures { m.new ≡ alu_effect op m.old d b }
 {
     let a = m.regs[d.number()];
     let c = is_set(m, FlagName::Cf);
@@ -105,7 +104,7 @@ pub(crate) fn alu(m: &mut Machine, op: AluOp, d: Reg, b: u64)
 
 /// The negative or the inverse of a register.
 pub(crate) fn one(m: &mut Machine, op: OneOp, d: Reg)
-    ensures { m.new ≡ one_done op m.old d }
+    ensures { m.new ≡ one_effect op m.old d }
 {
     let a = m.regs[d.number()];
     match op {
@@ -119,7 +118,7 @@ pub(crate) fn one(m: &mut Machine, op: OneOp, d: Reg)
 
 // A rotation leaves carry and overflow open.
 fn rotate(m: &mut Machine, d: Reg, r: u64)
-    ensures { m.new ≡ rotated m.old d r }
+    ensures { m.new ≡ rotation_state m.old d r }
 {
     m.regs[d.number()] = r;
     m.flags[CF] = Flag::Undefined;
@@ -137,7 +136,7 @@ fn bit(a: u64, number: u8) -> Flag
 pub(crate) fn shift(m: &mut Machine, op: ShiftOp, d: Reg, n: u8)
     requires from { 1 ≤ n }
     requires up_to { n ≤ 63 }
-    ensures { m.new ≡ shift_done op m.old d n }
+    ensures { m.new ≡ shift_effect op m.old d n }
 {
     let a = m.regs[d.number()];
     match op {
@@ -150,7 +149,7 @@ pub(crate) fn shift(m: &mut Machine, op: ShiftOp, d: Reg, n: u8)
 
 /// The lower half of a product; every flag is open.
 pub(crate) fn multiply(m: &mut Machine, d: Reg, b: u64)
-    ensures { m.new ≡ multiplied m.old d b }
+    ensures { m.new ≡ product_state m.old d b }
 {
     let (_, low) = mul_wide(m.regs[d.number()], b);
     m.regs[d.number()] = low;
@@ -185,7 +184,7 @@ pub(crate) fn multiply_apart(m: &mut Machine, hi: Reg, lo: Reg, b: u64)
 
 /// A sum with one flag, which it sets.
 pub(crate) fn add_with(m: &mut Machine, name: FlagName, d: Reg, b: u64)
-    ensures { m.new ≡ carried name m.old d b }
+    ensures { m.new ≡ carry_state name m.old d b }
 {
     let (r, carry) = add_carry(m.regs[d.number()], b, is_set(m, name));
     m.regs[d.number()] = r;

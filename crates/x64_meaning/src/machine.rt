@@ -1,8 +1,9 @@
 // The machine's state, and what is seen of a step.
 
-ghost use Rattle.std.specs.Prelude.{◌≡◌, length, replicate};
+ghost use Rattle.std.specs.Prelude.{◌≡◌, ◌<◌, ℕ, length, replicate, slice_index};
+ghost use Rattle.term_core.specs.Value.{T, T128};
 ghost use Rattle.x64_meaning.specs.declared.machine.Flag.TheVariants as value;
-ghost use Rattle.x64_meaning.specs.State.{flag};
+ghost use Rattle.x64_meaning.specs.State.{IsState, flag};
 
 use std::marker::Model;
 use x64_blocks::Blocks;
@@ -49,6 +50,17 @@ impl Model for Machine {
     ghost view = { λ m. record { regs = m.regs; xmms = m.xmms; flags = m.flags; blocks = m.blocks } };
 }
 
+// Registers are 16 words.
+pub(crate) fn are_words(regs: [u64; 16])
+    ensures length { length regs ≡ 16 }
+    ensures fits { (k : ℕ) → slice_index regs k < T }
+{}
+
+fn are_wide_words(xmms: [u128; 16])
+    ensures length { length xmms ≡ 16 }
+    ensures fits { (k : ℕ) → slice_index xmms k < T128 }
+{}
+
 fn are_four(flags: &[Flag; 4])
     ensures { length flags.now ≡ 4 }
 {}
@@ -64,6 +76,16 @@ impl Machine {
             flags: [Flag::Undefined; 4],
             blocks,
         }
+    }
+
+    /// Every machine is a state: its numbers fit, and its blocks lie apart.
+    pub fn is_a_state(&self)
+        ensures { IsState self.now }
+    {
+        are_words(self.regs);
+        are_wide_words(self.xmms);
+        are_four(&self.flags);
+        self.blocks.are_memory();
     }
 
     /// The value of a flag.

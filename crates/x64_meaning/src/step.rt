@@ -10,13 +10,14 @@ ghost use Rattle.x64_blocks.specs.Memory.{store};
 ghost use Rattle.term_core.specs.Value.{T, word_of};
 ghost use Rattle.x64_meaning.specs.State.{flag, load};
 ghost use Rattle.x64_meaning.specs.Run.{is_undefined, address, access, with_access, does, cond_holds, first_undefined};
-ghost use Rattle.x64_meaning.specs.Steps.{loaded, sourced, taken, computed, Fits, is_general, defined_flag, defined, Puts, Acts, Steps, Foresees, WouldPut};
+ghost use Rattle.x64_meaning.specs.Table.{is_general};
+ghost use Rattle.x64_meaning.specs.inner.Steps.{flags_meet, address_sum, load_result, source_word, input_word, effect, Fits, read_flag_fault, flag_fault, Puts, Acts, Steps, Foresees, WouldPut};
 
 use crate::arithmetic::{
     add_with, alu, is_set, multiply, multiply_apart, multiply_wide, one, shift,
 };
 use crate::laws::forms_as_in_the_table;
-use crate::machine::{Fault, Flag, Machine, Obs, Seen};
+use crate::machine::{Fault, Flag, Machine, Obs, Seen, are_words};
 use x64_syntax::{Cond, FlagName, Ins, Mem, Opr, Place, Reg, reads_of};
 
 fn displacement(mem: &Mem) -> u64
@@ -25,9 +26,9 @@ fn displacement(mem: &Mem) -> u64
     i64::from(mem.disp).cast_unsigned()
 }
 
-// The address of a memory operand, modulo 2^64.
-fn address(m: &Machine, mem: &Mem) -> u64
-    ensures { result ≡ address m.now mem.now }
+// Base, index and displacement, added modulo 2^64.
+fn address_sum(m: &Machine, mem: &Mem) -> u64
+    ensures { result ≡ address_sum m.now mem.now }
 {
     let base = m.regs[mem.base.number()];
     let index = match mem.index {
@@ -37,9 +38,17 @@ fn address(m: &Machine, mem: &Mem) -> u64
     base.wrapping_add(index).wrapping_add(displacement(mem))
 }
 
+// The address of a memory operand, as in the table.
+fn address(m: &Machine, mem: &Mem) -> u64
+    ensures { result ≡ address m.now mem.now }
+{
+    m.is_a_state();
+    address_sum(m, mem)
+}
+
 // The word at an address, and the access.
 fn load(m: &Machine, address: u64) -> Result<(u64, Option<Obs>), Fault>
-    ensures { result ≡ loaded address (load m.now address 8) }
+    ensures { result ≡ load_result address (load m.now address 8) }
 {
     let access = Obs::Access {
         address,
@@ -54,7 +63,7 @@ fn load(m: &Machine, address: u64) -> Result<(u64, Option<Obs>), Fault>
 
 // The word of a source, and the access that it took.
 fn source(m: &Machine, s: &Opr) -> Result<(u64, Option<Obs>), Fault>
-    ensures { result ≡ sourced m.now s.now }
+    ensures { result ≡ source_word m.now s.now }
 {
     match s {
         Opr::R(reg) => Ok((m.regs[reg.number()], None)),
@@ -63,15 +72,9 @@ fn source(m: &Machine, s: &Opr) -> Result<(u64, Option<Obs>), Fault>
     }
 }
 
-// Registers are 16 words.
-fn are_words(regs: [u64; 16])
-    ensures length { length regs ≡ 16 }
-    ensures fits { (k : ℕ) → slice_index regs k < T }
-{}
-
 // The word that an instruction takes in beside its registers, and the access that this needs.
 fn taken(m: &Machine, ins: &Ins) -> Result<(u64, Option<Obs>), Fault>
-    ensures value { result ≡ taken m.now ins.now }
+    ensures value { result ≡ input_word m.now ins.now }
     ensures fits { Fits m.now }
     ensures word { IfOk result (λ r. r.0 < T) }
 {
@@ -92,7 +95,7 @@ fn taken(m: &Machine, ins: &Ins) -> Result<(u64, Option<Obs>), Fault>
 // Computes what an instruction leaves in registers and flags, from what it took in.
 fn compute(m: &mut Machine, ins: &Ins, word: u64)
     requires { is_ok (form_of ins.now) ≡ true }
-    ensures { m.new ≡ computed ins.now m.old word }
+    ensures { m.new ≡ effect ins.now m.old word }
 {
     match ins {
         Ins::Mov { d, .. } => m.regs[d.number()] = word,
@@ -116,9 +119,9 @@ fn compute(m: &mut Machine, ins: &Ins, word: u64)
     }
 }
 
-/// Whether a condition holds, where the flags that it reads are defined.
-pub fn holds(m: &Machine, c: Cond) -> bool
-    ensures { result ≡ cond_holds c m.now }
+// Whether the flags meet a condition.
+fn flags_meet(m: &Machine, c: Cond) -> bool
+    ensures { result ≡ flags_meet c m.now }
 {
     let cf = is_set(m, FlagName::Cf);
     let zf = is_set(m, FlagName::Zf);
@@ -130,6 +133,13 @@ pub fn holds(m: &Machine, c: Cond) -> bool
         Cond::Be => cf || zf,
         Cond::A => !cf && !zf,
     }
+}
+
+/// Whether a condition holds, where the flags that it reads are defined.
+pub fn holds(m: &Machine, c: Cond) -> bool
+    ensures { result ≡ cond_holds c m.now }
+{
+    flags_meet(m, c)
 }
 
 // Stores a word, and what an observer sees of it.
@@ -206,7 +216,7 @@ pub fn open_flag(m: &Machine, c: Cond) -> Option<FlagName>
 }
 
 fn is_defined(m: &Machine, ins: &Ins, flag: FlagName) -> Result<(), Fault>
-    ensures { result ≡ defined_flag (λ f. is_among (read_places ins.now) (place.Flag f)) m.now flag }
+    ensures { result ≡ read_flag_fault (λ f. is_among (read_places ins.now) (place.Flag f)) m.now flag }
 {
     if reads_of(ins).contains(Place::Flag(flag)) && is_open(m, flag) {
         return Err(Fault::UndefinedFlag { flag });
@@ -216,7 +226,7 @@ fn is_defined(m: &Machine, ins: &Ins, flag: FlagName) -> Result<(), Fault>
 
 // Whether the flags that an instruction reads are defined; else the first that isn't.
 fn are_defined(m: &Machine, ins: &Ins) -> Result<(), Fault>
-    ensures { result ≡ defined (first_undefined (λ f. is_among (read_places ins.now) (place.Flag f)) m.now) }
+    ensures { result ≡ flag_fault (first_undefined (λ f. is_among (read_places ins.now) (place.Flag f)) m.now) }
 {
     is_defined(m, ins, FlagName::Cf)?;
     is_defined(m, ins, FlagName::Zf)?;

@@ -1,6 +1,6 @@
 use Rattle.std.proofs.Common.{ap, ◌∙◌, arith}
 use Rattle.std.proofs.lemmas.Result.{err_from_is_err_and}
-use Rattle.x64_evaluator.specs.Evaluated.{are_general, is_entry_at, evaluated, way}
+use Rattle.x64_evaluator.specs.Evaluated.{are_general, is_entry_at, evaluation, way}
 use Rattle.x64_evaluator.specs.Report.{report_text}
 use Rattle.vale_driver.specs.inner.Phases.{eval_of}
 use Rattle.vale_driver.proofs.Files.{stops_also}
@@ -32,6 +32,6 @@ returns-clause-reported g c =
     let at = c.in_ok-items.entry in
     let n = c.args.words.steps in
     let start = c.in_ok-machine.machine in
-    let run = c.run_items-run.ensures.ended ∙ ap (λ l. evaluated l c.in_ok-trace.trace.room n at (way start c.in_ok-trace.trace.seen 0)) c.deref.ensures.value ∙ ap (λ t. evaluated items t.room n at (way start t.seen 0)) c.in_ok-trace.ensures in
+    let run = c.run_items-run.ensures.ended ∙ ap (λ l. evaluation l c.in_ok-trace.trace.room n at (way start c.in_ok-trace.trace.seen 0)) c.deref.ensures.value ∙ ap (λ t. evaluation items t.room n at (way start t.seen 0)) c.in_ok-trace.ensures in
     let is = c.in_ok-report_of.ensures ∙ ap report_text run in
     reported (g.S.Store.tells c.args.store.now) (eval_of c.args.words) _ c.in_ok-items.items.items c.in_ok-items.entry c.in_ok-machine.machine c.in_ok-report_of.field-0.items (c.in_ok-items.ensures.same_files c.args.words.state.now) c.in_ok-items.ensures.begun c.in_ok-machine.ensures.found is

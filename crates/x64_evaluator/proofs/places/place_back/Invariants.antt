@@ -1,4 +1,4 @@
-use Rattle.x64_evaluator.specs.Places.{OnlyAbove}
+use Rattle.x64_evaluator.specs.inner.Places.{OnlyAbove}
 use Rattle.x64_evaluator.proofs.places.place_back.Given as goal
 
 abbrev pub invariant-loop-k : goal.invariant-loop-k

@@ -2,8 +2,8 @@ use Rattle.std.proofs.Common.{◌≡◌, sym, subst, ap, ◌∙◌, arith}
 use Rattle.std.specs.Prelude.{Ok, Err}
 use Rattle.std.proofs.lemmas.Result.{err_from_is_err_and}
 use Rattle.x64_meaning.specs.Run.{does}
-use Rattle.x64_meaning.specs.Steps.{Steps}
-use Rattle.x64_evaluator.specs.Moves.{stands, done}
+use Rattle.x64_meaning.specs.inner.Steps.{Steps}
+use Rattle.x64_evaluator.specs.inner.Moves.{stands, done}
 use Rattle.x64_evaluator.proofs.Doing.{once, fault, done_seen, done_kept}
 use Rattle.x64_evaluator.proofs.run.do_seen.Goals as goal
 

@@ -6,8 +6,8 @@ use Rattle.x64_meaning.specs.declared.machine.Obs.{Obs}
 use Rattle.x64_meaning.specs.State.{State}
 use Rattle.x64_evaluator.specs.declared.end.End.TheVariants.{TraceFull}
 use Rattle.x64_meaning.specs.Run.{does}
-use Rattle.x64_meaning.specs.Steps.{Foresees}
-use Rattle.x64_evaluator.specs.Moves.{stands, done}
+use Rattle.x64_meaning.specs.inner.Steps.{Foresees}
+use Rattle.x64_evaluator.specs.inner.Moves.{stands, done}
 use Rattle.x64_evaluator.proofs.Doing.{once, fault, fault_foreseen, not_seen, full}
 use Rattle.x64_evaluator.proofs.run.do_unseen.Goals as goal
 

@@ -2,9 +2,9 @@ use Rattle.std.proofs.Common.{sym, ap, length, refl}
 use Rattle.std.proofs.lemmas.Bool.{ltb-false, ltb-true}
 use Rattle.std.proofs.lemmas.Option.{slice_get_past, slice_get_read}
 use Rattle.x64_syntax.specs.Programs.{is_item}
-use Rattle.x64_meaning.specs.Run.{act, Running}
+use Rattle.x64_meaning.specs.Run.{item_step, follow, Running}
 use Rattle.x64_evaluator.specs.Evaluated.{way, is_general_item}
-use Rattle.x64_evaluator.specs.Moves.{moved}
+use Rattle.x64_evaluator.specs.inner.Moves.{step_stand}
 use Rattle.x64_evaluator.proofs.Sides.{passes_at}
 use Rattle.x64_evaluator.proofs.run.step.Goals as goal
 
@@ -24,4 +24,4 @@ pub returns-in-None-clause-moved : goal.returns-in-None-clause-moved
 returns-in-None-clause-moved c k =
     let w = way c.args.m.now c.args.t.now.seen k in
     let past = slice_get_past c.args.items.now c.args.at (ltb-false _ _ (sym c.in-None.ensures.lookup.0)) in
-    sym (ap (λ o. moved c.args.t.now.room w (act c.args.items.now o Running c.args.at w)) past)
+    sym (ap (λ o. step_stand c.args.t.now.room w (follow w (item_step c.args.items.now o c.args.at c.args.m.now) Running)) past)

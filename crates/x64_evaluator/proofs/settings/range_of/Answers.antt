@@ -1,7 +1,7 @@
 use Rattle.std.proofs.Common.{◌++◌, sym, ap, ◌∙◌, option_map}
 use Rattle.std.proofs.lemmas.Option.{same_Some}
 use Rattle.x64_evaluator.specs.StateFile.{range_text, are_bytes}
-use Rattle.x64_evaluator.specs.Setting.{range_seen}
+use Rattle.x64_evaluator.specs.inner.Setting.{range_seen}
 use Rattle.x64_evaluator.proofs.Taken.{same_bytes}
 use Rattle.x64_evaluator.proofs.settings.range_of.Goals as goal
 

@@ -1,6 +1,6 @@
 use Rattle.std.proofs.Common.{◌≡◌, subst, arith}
 use Rattle.x64_evaluator.specs.StateFile.{setting_text}
-use Rattle.x64_evaluator.specs.Setting.{Takes}
+use Rattle.x64_evaluator.specs.inner.Setting.{Takes}
 use Rattle.x64_evaluator.proofs.Reading.{one_more, stops}
 use Rattle.x64_evaluator.proofs.state.read_state.Goals as goal
 
@@ -12,6 +12,7 @@ returns-then-not-branch c =
     let takes = subst (λ b. Takes so.settings (λ s. setting_text s ≡ c.first_line.result.0.now) b new) c.if-not-branch.true (c.in_ok-take.ensures so.settings so.holds) in
     record {
       ok = tt;
+      state = tt;
       err = stops c.args.bytes.now l.rest.now c.first_line.result.0.now c.first_line.result.1.now l.number l.reader new so c.first_line.ensures.lines takes;
     }
 

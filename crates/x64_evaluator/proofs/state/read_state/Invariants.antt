@@ -1,5 +1,5 @@
 use Rattle.std.proofs.Common.{length, ◌+◌, ◌≤◌}
-use Rattle.x64_evaluator.specs.Setting.{ReadSoFar}
+use Rattle.x64_evaluator.specs.inner.Setting.{ReadSoFar}
 use Rattle.x64_evaluator.proofs.state.read_state.Given as goal
 
 abbrev pub invariant-loop-rest : goal.invariant-loop-rest

@@ -2,7 +2,7 @@ use Rattle.std.proofs.Common.{sym, subst, ap, ◌∙◌}
 use Rattle.std.specs.Prelude.{Ok, Err}
 use Rattle.std.proofs.lemmas.Result.{err_from_is_err_and}
 use Rattle.x64_meaning.specs.Run.{access, with_access}
-use Rattle.x64_meaning.specs.Steps.{Acts}
+use Rattle.x64_meaning.specs.inner.Steps.{Acts}
 use Rattle.x64_meaning.proofs.Stepping.{act_does, act_faults}
 use Rattle.x64_meaning.proofs.step.act.Goals as goal
 

@@ -2,7 +2,7 @@ use Rattle.std.proofs.Common.{sym, subst, ap, ◌∙◌}
 use Rattle.std.specs.Prelude.{Err}
 use Rattle.std.proofs.lemmas.Result.{err_from_is_err_and}
 use Rattle.x64_meaning.specs.Run.{does}
-use Rattle.x64_meaning.specs.Steps.{Foresees}
+use Rattle.x64_meaning.specs.inner.Steps.{Foresees}
 use Rattle.x64_meaning.proofs.Stepping.{step_open}
 use Rattle.x64_meaning.proofs.Foreseeing.{foreseen_fault}
 use Rattle.x64_meaning.proofs.step.foresee.Goals as goal

@@ -2,7 +2,7 @@ use Rattle.std.proofs.Common.{sym, subst, ap, ◌∙◌, None}
 use Rattle.std.specs.Prelude.{Err}
 use Rattle.std.proofs.lemmas.Result.{err_from_is_err_and}
 use Rattle.x64_meaning.specs.Run.{access, with_access, does}
-use Rattle.x64_meaning.specs.Steps.{Acts, Steps}
+use Rattle.x64_meaning.specs.inner.Steps.{Acts, Steps}
 use Rattle.x64_meaning.proofs.Stepping.{step_open, step_done, step_fault}
 use Rattle.x64_meaning.proofs.step.step_ins.Goals as goal
 

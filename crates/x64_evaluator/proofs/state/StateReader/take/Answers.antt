@@ -1,7 +1,7 @@
 use Rattle.std.proofs.Common.{Some, sym, subst, ◌∙◌, arith, codes}
 use Rattle.std.specs.Str.{IsUtf8}
 use Rattle.std.proofs.lemmas.Str.Pattern.{split_parts}
-use Rattle.x64_evaluator.specs.Setting.{IsValue, IsRange, range_seen}
+use Rattle.x64_evaluator.specs.inner.Setting.{IsValue, IsRange, range_seen}
 use Rattle.x64_evaluator.proofs.Lines.{text_utf8, adds_block, sets_value}
 use Rattle.x64_evaluator.proofs.Taken.{same_bytes, other_bytes}
 use Rattle.x64_evaluator.proofs.state.StateReader.take.Goals as goal

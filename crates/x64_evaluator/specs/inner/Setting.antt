@@ -7,7 +7,7 @@ use Rattle.x64_syntax.specs.PlaceSets.{in_set}
 use Rattle.x64_blocks.specs.Memory.{Range, meets}
 use Rattle.x64_meaning.specs.State.{State}
 use Rattle.x64_evaluator.specs.declared.state.StateReader.{StateReader}
-use Rattle.x64_evaluator.specs.StateFile.{lines_of, Setting, Value, Block, value_text, range_text, setting_text, limit, are_bytes, clashes, may_follow, allowed, put, put_all, fresh}
+use Rattle.x64_evaluator.specs.StateFile.{lines_of, Setting, Value, Block, value_text, range_text, setting_text, limit, are_bytes, clashes, may_follow, may_stand, with_setting, with_settings, fresh}
 
 -- The text is that of a value that fits, and of no other, or of none.
 abbrev pub IsValue : List ℕ → Option (Place × ℕ) → Type 0
@@ -24,7 +24,7 @@ IsRange text None = (b : Range) → are_bytes b ≡ true → range_text b ≡ te
 
 -- a block more, or one that reaches past the end of memory or has an address in common with another
 abbrev pub Adds : State → Range → Bool → State → Type 0
-Adds s b true new = (b.base + length b.bytes ≤ 2 ^ 64) × (list_any (meets b) s.blocks ≡ false) × (new ≡ put s (Block b))
+Adds s b true new = (b.base + length b.bytes ≤ 2 ^ 64) × (list_any (meets b) s.blocks ≡ false) × (new ≡ with_setting s (Block b))
 Adds s b false new = (2 ^ 64 < b.base + length b.bytes) ⊎ (list_any (meets b) s.blocks ≡ true)
 
 -- a value of the place is set
@@ -47,7 +47,7 @@ Blankless word = (k : ℕ) → k < length word → get_or word k 0 ≢ 32
 
 -- the reader holds what these set
 pub record Holds (ss : List Setting) (r : StateReader) : Type 0 where
-  pub machine : r.machine ≡ put_all fresh ss
+  pub machine : r.machine ≡ with_settings fresh ss
   pub places : (p : Place) → in_set r.set p ≡ list_any (sets p) ss
 
 -- one setting more, or none that may follow
@@ -58,7 +58,7 @@ Takes ss Says false r = (s : Setting) → Says s → may_follow ss s ≡ true �
 -- so far the lines are those of settings
 pub record ReadSoFar (bytes rest : List ℕ) (number : ℕ) (r : StateReader) : Type 0 where
   pub settings : List Setting
-  pub allowed : allowed [] settings ≡ true
+  pub allowed : may_stand [] settings ≡ true
   pub are : lines_of bytes ≡ map setting_text settings ++ lines_of rest
   pub holds : Holds settings r
   pub count : number ≡ length settings + 1

@@ -1,9 +1,12 @@
 -- What one step of the machine that runs leaves: in plain numbers, and against what the instruction does.
-use Rattle.std.specs.Prelude.{◌≡◌, ℕ, ◌<◌, length, if◌then◌else◌, ◌+◌, ◌-◌, ◌*◌, ◌/◌, ◌%◌, ◌^◌, Bool, true, false, not, nat_le, ◌==◌, List, [], ◌∷◌, Option, Some, None, Result, Ok, Err, bit_and, bit_or, bit_xor, slice_set}
+use Rattle.std.specs.Prelude.{◌≡◌, ℕ, ◌<◌, length, if◌then◌else◌, ◌+◌, ◌-◌, ◌*◌, ◌/◌, ◌%◌, ◌^◌, Bool, true, false, not, ◌&&◌, ◌||◌, nat_le, ◌==◌, List, [], ◌∷◌, Option, Some, None, Result, Ok, Err, bit_and, bit_or, bit_xor, slice_set}
 use Rattle.x64_syntax.specs.declared.places.Reg.{Reg as GeneralReg}
 use Rattle.x64_syntax.specs.declared.places.Reg.TheVariants.{Rax, Rdx, Rsp}
 use Rattle.x64_syntax.specs.declared.places.FlagName.{FlagName}
 use Rattle.x64_syntax.specs.declared.places.FlagName.TheVariants.{Cf, Zf, Sf, Of}
+use Rattle.x64_syntax.specs.declared.conditions.Cond.{Cond}
+use Rattle.x64_syntax.specs.declared.conditions.Cond.TheVariants.{E, Ne, B, Be, A, Ae}
+use Rattle.x64_syntax.specs.declared.operands.Mem.{Mem}
 use Rattle.x64_syntax.specs.declared.operands.Opr.{Opr}
 use Rattle.x64_syntax.specs.declared.operands.Opr.TheVariants.{R, Imm, M}
 use Rattle.x64_syntax.specs.declared.instructions.AluOp.{AluOp}
@@ -26,7 +29,7 @@ use Rattle.x64_meaning.specs.declared.machine.Fault.{Fault}
 use Rattle.x64_meaning.specs.declared.machine.Fault.TheVariants.{Outside, UndefinedFlag}
 use Rattle.x64_meaning.specs.declared.machine.Obs.TheVariants.{Access}
 use Rattle.x64_meaning.specs.State.{State, reg, flag, load}
-use Rattle.x64_meaning.specs.Run.{Outcome, Done, Faulted, address, is_one, cond_holds, is_undefined}
+use Rattle.x64_meaning.specs.Run.{Outcome, Done, Faulted, address, cond_holds, is_undefined}
 
 -- the one observation of a step, or none
 abbrev pub last_of : List Obs → Option Obs
@@ -44,13 +47,37 @@ Acts (Done s seen) old new result = (result ≡ Ok (last_of seen)) × (new ≡ s
 Acts (Faulted f) old new result = (result ≡ Err f) × (new ≡ old)
 
 -- the first of the flags that is undefined, as a fault
-abbrev pub defined : Option FlagName → Result (Unit {0}) Fault
-defined None = Ok tt
-defined (Some f) = Err (UndefinedFlag f)
+abbrev pub flag_fault : Option FlagName → Result (Unit {0}) Fault
+flag_fault None = Ok tt
+flag_fault (Some f) = Err (UndefinedFlag f)
 
 -- the flag is defined where it is read
-abbrev pub defined_flag : (FlagName → Bool) → State → FlagName → Result (Unit {0}) Fault
-defined_flag is_read s f = if is_read f then (if is_undefined (flag s f) then Err (UndefinedFlag f) else Ok tt) else Ok tt
+abbrev pub read_flag_fault : (FlagName → Bool) → State → FlagName → Result (Unit {0}) Fault
+read_flag_fault is_read s f = if is_read f then (if is_undefined (flag s f) then Err (UndefinedFlag f) else Ok tt) else Ok tt
+
+-- whether a flag is 1
+abbrev pub is_one : Flag → Bool
+is_one Zero = false
+is_one One = true
+is_one Undefined = false
+
+-- whether the flags meet a condition
+abbrev pub flags_meet : Cond → State → Bool
+flags_meet E s = is_one (flag s Zf)
+flags_meet Ne s = not (is_one (flag s Zf))
+flags_meet B s = is_one (flag s Cf)
+flags_meet Ae s = not (is_one (flag s Cf))
+flags_meet Be s = is_one (flag s Cf) || is_one (flag s Zf)
+flags_meet A s = not (is_one (flag s Cf)) && not (is_one (flag s Zf))
+
+-- scale * index, or 0 where there is no index
+abbrev pub index_part : State → Option (GeneralReg × ℕ) → ℕ
+index_part s None = 0
+index_part s (Some i) = i.1 * reg s i.0
+
+-- base, index and displacement, added
+abbrev pub address_sum : State → Mem → ℕ
+address_sum s m = (reg s m.base + index_part s m.index + word_of m.disp) % T
 
 -- a flag that says whether something holds
 abbrev pub flag_if : Bool → Flag
@@ -73,67 +100,67 @@ with_result r carry overflow s =
     set_flag Of overflow (set_flag Sf (flag_if (negative r)) (set_flag Zf (flag_if (r == 0)) (set_flag Cf carry s)))
 
 -- a result in a register, with its flags
-abbrev pub finished : GeneralReg → ℕ → Flag → Flag → State → State
-finished d r carry overflow s = with_result r carry overflow (set_reg d r s)
+abbrev pub result_state : GeneralReg → ℕ → Flag → Flag → State → State
+result_state d r carry overflow s = with_result r carry overflow (set_reg d r s)
 
 -- a + b + c
-abbrev pub summed : State → GeneralReg → ℕ → Bool → State
-summed s d b c =
+abbrev pub sum_state : State → GeneralReg → ℕ → Bool → State
+sum_state s d b c =
     let a = reg s d in
     let r = words.sum a b c in
-    finished d r (flag_if (words.carries a b c)) (flag_if (negative (bit_and (bit_xor a r) (bit_xor b r)))) s
+    result_state d r (flag_if (words.carries a b c)) (flag_if (negative (bit_and (bit_xor a r) (bit_xor b r)))) s
 
 abbrev pub difference_overflows : ℕ → ℕ → ℕ → Flag
 difference_overflows a b r = flag_if (negative (bit_and (bit_xor a b) (bit_xor a r)))
 
 -- a - b - c
-abbrev pub subtracted : State → GeneralReg → ℕ → Bool → State
-subtracted s d b c =
+abbrev pub difference_state : State → GeneralReg → ℕ → Bool → State
+difference_state s d b c =
     let a = reg s d in
     let r = words.difference a b c in
-    finished d r (flag_if (words.borrows a b c)) (difference_overflows a b r) s
+    result_state d r (flag_if (words.borrows a b c)) (difference_overflows a b r) s
 
-abbrev pub compared : State → GeneralReg → ℕ → State
-compared s d b =
+abbrev pub comparison_state : State → GeneralReg → ℕ → State
+comparison_state s d b =
     let a = reg s d in
     let r = words.difference a b false in
     with_result r (flag_if (words.borrows a b false)) (difference_overflows a b r) s
 
-abbrev pub alu_done : AluOp → State → GeneralReg → ℕ → State
-alu_done alu.Add s d b = summed s d b false
-alu_done alu.Adc s d b = summed s d b (is_one (flag s Cf))
-alu_done alu.Sub s d b = subtracted s d b false
-alu_done alu.Sbb s d b = subtracted s d b (is_one (flag s Cf))
-alu_done alu.Cmp s d b = compared s d b
-alu_done alu.And s d b = finished d (bit_and (reg s d) b) Zero Zero s
-alu_done alu.Or s d b = finished d (bit_or (reg s d) b) Zero Zero s
-alu_done alu.Xor s d b = finished d (bit_xor (reg s d) b) Zero Zero s
+abbrev pub alu_effect : AluOp → State → GeneralReg → ℕ → State
+alu_effect alu.Add s d b = sum_state s d b false
+alu_effect alu.Adc s d b = sum_state s d b (is_one (flag s Cf))
+alu_effect alu.Sub s d b = difference_state s d b false
+alu_effect alu.Sbb s d b = difference_state s d b (is_one (flag s Cf))
+alu_effect alu.Cmp s d b = comparison_state s d b
+alu_effect alu.And s d b = result_state d (bit_and (reg s d) b) Zero Zero s
+alu_effect alu.Or s d b = result_state d (bit_or (reg s d) b) Zero Zero s
+alu_effect alu.Xor s d b = result_state d (bit_xor (reg s d) b) Zero Zero s
 
-abbrev pub one_done : OneOp → State → GeneralReg → State
-one_done one.Neg s d =
+abbrev pub one_effect : OneOp → State → GeneralReg → State
+one_effect one.Neg s d =
     let a = reg s d in
-    finished d (words.difference 0 a false) (flag_if (not (a == 0))) (flag_if (a == 2 ^ 63)) s
-one_done one.Not s d = set_reg d (T - 1 - reg s d) s
+    result_state d (words.difference 0 a false) (flag_if (not (a == 0))) (flag_if (a == 2 ^ 63)) s
+one_effect one.Not s d = set_reg d (T - 1 - reg s d) s
 
 abbrev pub bit_at : ℕ → ℕ → Bool
 bit_at m a = bit_and (a / 2 ^ m) 1 == 1
 
 -- a rotation leaves carry and overflow open
-abbrev pub rotated : State → GeneralReg → ℕ → State
-rotated s d r = set_flag Of Undefined (set_flag Cf Undefined (set_reg d r s))
+abbrev pub rotation_state : State → GeneralReg → ℕ → State
+rotation_state s d r = set_flag Of Undefined (set_flag Cf Undefined (set_reg d r s))
 
-abbrev pub shift_done : ShiftOp → State → GeneralReg → ℕ → State
-shift_done shift.Shl s d n =
+abbrev pub shift_effect : ShiftOp → State → GeneralReg → ℕ → State
+shift_effect shift.Shl s d n =
     let a = reg s d in
-    finished d ((a * 2 ^ n) % T) (flag_if (bit_at (64 - n) a)) Undefined s
-shift_done shift.Shr s d n =
+    result_state d ((a * 2 ^ n) % T) (flag_if (bit_at (64 - n) a)) Undefined s
+shift_effect shift.Shr s d n =
     let a = reg s d in
-    finished d (a / 2 ^ n) (flag_if (bit_at (n - 1) a)) Undefined s
-shift_done shift.Rol s d n = rotated s d (words.rol (reg s d) n % T)
-shift_done shift.Ror s d n = rotated s d (words.ror (reg s d) n % T)
+    result_state d (a / 2 ^ n) (flag_if (bit_at (n - 1) a)) Undefined s
+shift_effect shift.Rol s d n = rotation_state s d (words.rol (reg s d) n % T)
+shift_effect shift.Ror s d n = rotation_state s d (words.ror (reg s d) n % T)
 
-abbrev pub multiplied : State → GeneralReg → ℕ → State
-multiplied s d b =
+abbrev pub product_state : State → GeneralReg → ℕ → State
+product_state s d b =
     set_flag Of Undefined (set_flag Sf Undefined (set_flag Zf Undefined (set_flag Cf Undefined (set_reg d (words.lower (reg s d) b) s))))
 
 abbrev pub wide_product : State → ℕ → State
@@ -145,21 +172,21 @@ wide_product s b =
 abbrev pub halves : State → GeneralReg → GeneralReg → ℕ → State
 halves s high low b = set_reg low (words.lower (reg s Rdx) b) (set_reg high (words.upper (reg s Rdx) b) s)
 
-abbrev pub carried : FlagName → State → GeneralReg → ℕ → State
-carried f s d b =
+abbrev pub carry_state : FlagName → State → GeneralReg → ℕ → State
+carry_state f s d b =
     let a = reg s d in
     let c = is_one (flag s f) in
     set_flag f (flag_if (words.carries a b c)) (set_reg d (words.sum a b c) s)
 
 -- a source's word and the access that it took, or why there is none
-abbrev pub loaded : ℕ → Option ℕ → Result (ℕ × Option Obs) Fault
-loaded a None = Err (Outside a)
-loaded a (Some n) = Ok (n, Some (Access a 8 false))
+abbrev pub load_result : ℕ → Option ℕ → Result (ℕ × Option Obs) Fault
+load_result a None = Err (Outside a)
+load_result a (Some n) = Ok (n, Some (Access a 8 false))
 
-abbrev pub sourced : State → Opr → Result (ℕ × Option Obs) Fault
-sourced s (R r) = Ok (reg s r, None)
-sourced s (Imm z) = Ok (word_of z, None)
-sourced s (M m) = loaded (address s m) (load s (address s m) 8)
+abbrev pub source_word : State → Opr → Result (ℕ × Option Obs) Fault
+source_word s (R r) = Ok (reg s r, None)
+source_word s (Imm z) = Ok (word_of z, None)
+source_word s (M m) = load_result (address s m) (load s (address s m) 8)
 
 -- the source of an instruction that has one
 abbrev pub operand_of : Ins → Option Opr
@@ -171,42 +198,29 @@ operand_of (Mulx high low o) = Some o
 operand_of (Carry op d o) = Some o
 operand_of i = None
 
-abbrev pub taken_from : State → Option Opr → Result (ℕ × Option Obs) Fault
-taken_from s None = Ok (0, None)
-taken_from s (Some o) = sourced s o
+abbrev pub input_from : State → Option Opr → Result (ℕ × Option Obs) Fault
+input_from s None = Ok (0, None)
+input_from s (Some o) = source_word s o
 
 -- the word that an instruction takes in, and the access that this needs
-abbrev pub taken : State → Ins → Result (ℕ × Option Obs) Fault
-taken s (Pop d) = loaded (reg s Rsp) (load s (reg s Rsp) 8)
-taken s i = taken_from s (operand_of i)
+abbrev pub input_word : State → Ins → Result (ℕ × Option Obs) Fault
+input_word s (Pop d) = load_result (reg s Rsp) (load s (reg s Rsp) 8)
+input_word s i = input_from s (operand_of i)
 
 -- what an instruction leaves in registers and flags, by what it took in
-abbrev pub computed : Ins → State → ℕ → State
-computed (Mov d o) s b = set_reg d b s
-computed (Lea d m) s b = set_reg d (address s m) s
-computed (Cmov c d r) s b = set_reg d (reg s (if cond_holds c s then r else d)) s
-computed (Pop d) s b = let t = set_reg d b s in set_reg Rsp ((reg t Rsp + 8) % T) t
-computed (Alu op d o) s b = alu_done op s d b
-computed (OneIns op d) s b = one_done op s d
-computed (Shift op d n) s b = shift_done op s d n
-computed (Imul d o) s b = multiplied s d b
-computed (Mul o) s b = wide_product s b
-computed (Mulx high low o) s b = halves s high low b
-computed (Carry op d o) s b = carried (carry_flag op) s d b
-computed i s b = s
-
--- the instructions on general registers, flags and memory
-abbrev pub is_general : Ins → Bool
-is_general (XMov d s) = false
-is_general (XLoad d m) = false
-is_general (XStore m s) = false
-is_general (XBin op d s) = false
-is_general (XShuf d s n) = false
-is_general (XShift op d n) = false
-is_general (XIns d s n) = false
-is_general (XExt d s n) = false
-is_general (XMovq d s) = false
-is_general i = true
+abbrev pub effect : Ins → State → ℕ → State
+effect (Mov d o) s b = set_reg d b s
+effect (Lea d m) s b = set_reg d (address s m) s
+effect (Cmov c d r) s b = set_reg d (reg s (if cond_holds c s then r else d)) s
+effect (Pop d) s b = let t = set_reg d b s in set_reg Rsp ((reg t Rsp + 8) % T) t
+effect (Alu op d o) s b = alu_effect op s d b
+effect (OneIns op d) s b = one_effect op s d
+effect (Shift op d n) s b = shift_effect op s d n
+effect (Imul d o) s b = product_state s d b
+effect (Mul o) s b = wide_product s b
+effect (Mulx high low o) s b = halves s high low b
+effect (Carry op d o) s b = carry_state (carry_flag op) s d b
+effect i s b = s
 
 -- the registers of a machine are 16 words
 pub record Fits (s : State) : Type 0 where

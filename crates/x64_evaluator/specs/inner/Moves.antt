@@ -17,11 +17,11 @@ abbrev pub stands : {A : Type 0} → Result A End → State → List Obs → Sta
 stands next s seen = record { next = next; state = s; seen = seen }
 
 -- after one step: the position of the next
-abbrev pub moved : ℕ → Way → machine.End → Stand ℕ
-moved room w (Running pos v) = if nat_le (length v.seen) room then stands (Ok pos) v.state v.seen else stands (Err TraceFull) w.state w.seen
-moved room w (machine.Ended v) = stands (Err Ended) v.state v.seen
-moved room w (Stopped f) = stands (Err (Faulted f)) w.state w.seen
-moved room w Past = stands (Err OffCode) w.state w.seen
+abbrev pub step_stand : ℕ → Way → machine.End → Stand ℕ
+step_stand room w (Running pos v) = if nat_le (length v.seen) room then stands (Ok pos) v.state v.seen else stands (Err TraceFull) w.state w.seen
+step_stand room w (machine.Ended v) = stands (Err Ended) v.state v.seen
+step_stand room w (Stopped f) = stands (Err (Faulted f)) w.state w.seen
+step_stand room w Past = stands (Err OffCode) w.state w.seen
 
 -- after an instruction
 abbrev pub done : ℕ → State → List Obs → Outcome → Stand (Unit {0})

@@ -1,0 +1,4 @@
+-- Definitions of private contracts and of proofs: no claim of the program rests on them.
+pub mod Moves
+pub mod Setting
+pub mod Places
