@@ -23,12 +23,12 @@ returns-in-Ok-clause-found g c =
     (subst (λ l. Parsed l decls) c.deref-2.ensures.value c.in_ok-decls.ensures.parsed)
     (ap (λ l. straight_line (map decl_tree l)) (sym c.deref-3.ensures.value) ∙ c.in-Ok.ensures.gives)
 
-pub returns-in-Err-NotOfForm-clause-stops : goal.returns-in-Err-NotOfForm-clause-stops
-returns-in-Err-NotOfForm-clause-stops g c =
+pub returns-in-Err-NoMatch-clause-stops : goal.returns-in-Err-NoMatch-clause-stops
+returns-in-Err-NoMatch-clause-stops g c =
     let decls = map decl_tree c.in_ok-decls.decls.items in
     let kept = c.in_ok-scanned.ensures.scanned ∙ ap (λ l. map scan (seen_all l)) c.deref.ensures.value in
-    let none = rw c.in-Err-NotOfForm.field-0-is at c.in-Err-NotOfForm.ensures.gives in
+    let none = rw c.in-Err-NoMatch.field-0-is at c.in-Err-NoMatch.ensures.gives in
     form_refused _ _ (seen_all c.in_ok-sources.sources.items) c.in_ok-scanned.scanned.items decls _ c.in_ok-sources.ensures.opened kept
     (subst (λ l. Parsed l decls) c.deref-2.ensures.value c.in_ok-decls.ensures.parsed)
     (ap (λ l. straight_line (map decl_tree l)) (sym c.deref-3.ensures.value) ∙ none)
-    c.in_ok-no_form-in-Err-NotOfForm.ensures
+    c.in_ok-no_form-in-Err-NoMatch.ensures
