@@ -58,7 +58,12 @@ fn whole(alloc: Global, tokens: &[Token]) -> Result<Expr, MatchFault>
 // The expression of a rank at the front, with a depth of at most `left`.
 #[cycle(expression)]
 #[tactic(auto, unfolding(crate::specs::inner::Looks::parse))]
-fn part<'a>(alloc: Global, tokens: &'a [Token], rank: u8, left: u8) -> Result<Parsed<'a>, MatchFault>
+fn part<'a>(
+    alloc: Global,
+    tokens: &'a [Token],
+    rank: u8,
+    left: u8,
+) -> Result<Parsed<'a>, MatchFault>
     ensures found { Gives view result (parse left rank tokens.now) }
     ensures shallow { IfOk result (λ p. p.height ≤ left) }
 {
@@ -254,7 +259,11 @@ fn named<'a>(alloc: Global, tokens: &'a [Token], below: u8) -> Result<Parsed<'a>
 // What stands in the round brackets of a call, the closing one included.
 #[cycle(expression)]
 #[tactic(auto, unfolding(crate::specs::inner::Looks::arguments))]
-fn arguments<'a>(alloc: Global, tokens: &'a [Token], below: u8) -> Result<ParsedList<'a>, MatchFault>
+fn arguments<'a>(
+    alloc: Global,
+    tokens: &'a [Token],
+    below: u8,
+) -> Result<ParsedList<'a>, MatchFault>
     ensures found { Gives view_list result (arguments (parse below) tokens.now) }
     ensures shallow { IfOk result (λ p. p.height ≤ below) }
 {

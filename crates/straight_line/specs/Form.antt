@@ -1,11 +1,11 @@
 -- The sources that are built so far, as trees: one procedure without branches, and its export.
-use Rattle.std.specs.Prelude.{◌≡◌, ℕ, ◌^◌, ◌-◌, ℤ, pos, negsuc, Bool, false, not, ◌&&◌, int_le, int_lt, ◌-ℤ◌, ◌≤ℤ◌, ◌<ℤ◌, ◌≤◌, true, nat_le, ◌==◌, List, [], ◌∷◌, ◌++◌, length, codes, Option, Some, None, is_some, Result, Ok, Err, if◌then◌else◌}
-use Rattle.std.specs.List.{find, AllByRecursion}
+use Rattle.std.specs.Prelude.{ℕ, ◌^◌, ◌-◌, ℤ, pos, negsuc, Bool, false, not, ◌&&◌, int_le, int_lt, ◌-ℤ◌, nat_le, ◌==◌, List, [], ◌∷◌, ◌++◌, length, codes, Option, Some, None, is_some, if◌then◌else◌}
+use Rattle.std.specs.List.{find}
 use Rattle.std.specs.Str.{bytes_eq}
 use Rattle.x64_syntax.specs.declared.places.Reg.{Reg as GeneralReg}
 use Rattle.x64_syntax.specs.declared.places.Reg.TheVariants.{Rsp}
 use Rattle.x64_syntax.specs.declared.operands.Opr.{Opr}
-use Rattle.x64_syntax.specs.declared.operands.Opr.TheVariants.{R, Imm, M}
+use Rattle.x64_syntax.specs.declared.operands.Opr.TheVariants.{R, Imm}
 use Rattle.x64_syntax.specs.declared.instructions.AluOp.TheVariants as alu
 use Rattle.x64_syntax.specs.declared.instructions.Ins.{Ins}
 use Rattle.x64_syntax.specs.declared.instructions.Ins.TheVariants.{Mov, Alu}

@@ -9,7 +9,7 @@ ghost use Rattle.vale_syntax.specs.inner.CodeTrees.{clause_tree};
 use crate::form::Promise;
 use sqlite_items::Items;
 use std::alloc::Global;
-use vale_syntax::{BinaryOp, Clause, Expr, Name, ReadPlace, MatchFault};
+use vale_syntax::{BinaryOp, Clause, Expr, MatchFault, Name, ReadPlace};
 use x64_syntax::{Reg, reg_named};
 
 fn register(name: &Name) -> Option<Reg>

@@ -11,7 +11,7 @@ use crate::form::StraightLine;
 use crate::statements::instructions;
 use sqlite_items::Items;
 use std::alloc::Global;
-use vale_syntax::{Clause, Decl, Name, Stmt, MatchFault};
+use vale_syntax::{Clause, Decl, MatchFault, Name, Stmt};
 use x64_syntax::{Ins, Reg, Text, is_export_name, is_reserved};
 
 /// The most statements that a procedure may have.

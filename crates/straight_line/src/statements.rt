@@ -9,7 +9,7 @@ ghost use Rattle.straight_line.specs.Form.{constant, source, instruction, operan
 use crate::clauses::named;
 use sqlite_items::Items;
 use std::alloc::Global;
-use vale_syntax::{Arg, Expr, Stmt, MatchFault};
+use vale_syntax::{Arg, Expr, MatchFault, Stmt};
 use x64_syntax::{AluOp, Ins, Opr, Reg};
 
 // A constant from `lowest` on and below `end`, as the number with a sign that is the same word.

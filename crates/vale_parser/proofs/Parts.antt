@@ -1,6 +1,5 @@
 -- Lists that are found are spelled, and those that are spelled are found.
 use Rattle.std.proofs.Common.{◌≡◌, ℕ, zero, suc, ◌≤◌, Bool, true, false, cond, List, [], ◌∷◌, ◌++◌, length, drop, length-drop, Option, Some, None, refl, sym, ◌∙◌, ap, subst, arith}
-use Rattle.std.proofs.lemmas.Bool.{false≢true}
 use Rattle.std.proofs.lemmas.Option.{same_Some}
 use Rattle.x64_syntax.specs.declared.keywords.Keyword.{Keyword}
 use Rattle.vale_syntax.specs.declared.token.Token.{Token}

@@ -17,7 +17,7 @@ use crate::words::{is_invariant, is_name};
 use expr_parser::{after, name_of};
 use sqlite_items::Items;
 use std::alloc::Global;
-use vale_syntax::{Arg, Expr, Mark, Name, Token, peek, MatchFault};
+use vale_syntax::{Arg, Expr, Mark, MatchFault, Name, Token, peek};
 
 /// Expressions, joined by commas, and the closing round bracket.
 pub(crate) fn expressions<'a>(

@@ -15,7 +15,7 @@ use crate::words::abi_at;
 use expr_parser::{after, spot_of};
 use sqlite_items::Items;
 use std::alloc::Global;
-use vale_syntax::{Clause, Expr, LemmaClause, Lookahead, Mark, Spot, Token, peek, MatchFault};
+use vale_syntax::{Clause, Expr, LemmaClause, Lookahead, Mark, MatchFault, Spot, Token, peek};
 use x64_syntax::Keyword;
 
 /// Behind the first token, an expression and a semicolon.

@@ -17,7 +17,9 @@ use crate::{lemma_statements, statements};
 use expr_parser::{after, spot_of};
 use sqlite_items::Items;
 use std::alloc::Global;
-use vale_syntax::{Bind, Decl, Expr, Lookahead, Mark, Name, SortName, Spot, Token, peek, MatchFault};
+use vale_syntax::{
+    Bind, Decl, Expr, Lookahead, Mark, MatchFault, Name, SortName, Spot, Token, peek,
+};
 use x64_syntax::Keyword;
 
 /// No statement is deeper.

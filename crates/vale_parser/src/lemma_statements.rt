@@ -15,7 +15,7 @@ use crate::words::is_else;
 use expr_parser::{after, name_of, spot_of};
 use sqlite_items::Items;
 use std::alloc::Global;
-use vale_syntax::{LemmaStmt, Lookahead, Mark, Token, peek, MatchFault};
+use vale_syntax::{LemmaStmt, Lookahead, Mark, MatchFault, Token, peek};
 use x64_syntax::Keyword;
 
 /// A statement and its depth.
@@ -68,7 +68,11 @@ fn call<'a>(alloc: Global, tokens: &'a [Token]) -> Result<LemmaStated<'a>, Match
 // A statement with a depth of at most `left`.
 #[cycle(statement)]
 #[tactic(auto, unfolding(crate::specs::inner::Productions::lstatement))]
-fn statement<'a>(alloc: Global, tokens: &'a [Token], left: u8) -> Result<LemmaStated<'a>, MatchFault>
+fn statement<'a>(
+    alloc: Global,
+    tokens: &'a [Token],
+    left: u8,
+) -> Result<LemmaStated<'a>, MatchFault>
     ensures found { Gives lstatement_view result (lstatement left tokens.now) }
     ensures shallow { IfOk result (λ s. s.height ≤ left) }
 {

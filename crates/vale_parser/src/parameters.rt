@@ -12,7 +12,9 @@ use crate::words::{is_secret, kind_behind, sort_behind};
 use expr_parser::{after, spot_of};
 use sqlite_items::Items;
 use std::alloc::Global;
-use vale_syntax::{Bind, Direction, Lookahead, Name, Param, ReadPlace, Spot, Token, peek, MatchFault};
+use vale_syntax::{
+    Bind, Direction, Lookahead, MatchFault, Name, Param, ReadPlace, Spot, Token, peek,
+};
 use x64_syntax::{Keyword, Sort};
 
 #[tactic(auto, unfolding(crate::specs::inner::Productions::bind))]

@@ -15,7 +15,7 @@ use crate::front::{Read, expect, expression, is_at, name};
 use expr_parser::after;
 use sqlite_items::Items;
 use std::alloc::{AllocError, Global};
-use vale_syntax::{Expr, Lookahead, Mark, Name, Token, peek, MatchFault};
+use vale_syntax::{Expr, Lookahead, Mark, MatchFault, Name, Token, peek};
 
 /// A part of the grammar of which there are lists.
 pub(crate) trait Part: Sized + Drop {

@@ -12,7 +12,7 @@ ghost use Rattle.vale_parser.specs.Sources.{StopsAt};
 use crate::declarations::declaration;
 use expr_parser::spot_of;
 use std::alloc::{AllocError, AllocFailed, Global};
-use vale_syntax::{Decl, Spot, Token, MatchFault};
+use vale_syntax::{Decl, MatchFault, Spot, Token};
 
 /// Why no declarations were read.
 #[derive(Clone, Copy, Debug, PartialEq, Eq, Drop)]

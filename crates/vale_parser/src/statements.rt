@@ -17,7 +17,7 @@ use crate::words::{is_decreases, is_else, is_if, sort_behind};
 use expr_parser::{after, name_of, spot_of};
 use sqlite_items::Items;
 use std::alloc::Global;
-use vale_syntax::{Expr, Lookahead, Mark, Spot, Stmt, Token, peek, MatchFault};
+use vale_syntax::{Expr, Lookahead, Mark, MatchFault, Spot, Stmt, Token, peek};
 use x64_syntax::Keyword;
 
 /// A statement and its depth.

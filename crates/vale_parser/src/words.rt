@@ -9,7 +9,7 @@ ghost use Rattle.vale_syntax.specs.inner.Matches.{Gives};
 
 use crate::front::{Read, expect};
 use expr_parser::{after, spot_of};
-use vale_syntax::{AbiName, KindName, Lookahead, Mark, SortName, Spot, Token, peek, MatchFault};
+use vale_syntax::{AbiName, KindName, Lookahead, Mark, MatchFault, SortName, Spot, Token, peek};
 use x64_syntax::{Keyword, TypeWord, type_word_named};
 
 fn sort_word(word: Option<TypeWord>, spot: Spot) -> Option<SortName>
