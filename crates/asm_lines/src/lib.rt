@@ -4,8 +4,6 @@
 mod forms;
 mod lines;
 mod listing;
-#[cfg(test)]
-mod tests;
 
 pub use forms::{Part, Parts, instruction, operands, operation};
 pub use lines::{Syntax, cond_name, cond_named, mnemonic};

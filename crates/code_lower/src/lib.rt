@@ -4,8 +4,6 @@
 
 mod laws;
 mod lowering;
-#[cfg(test)]
-mod tests;
 
 pub use laws::{lowered_is_a_program, lowering_keeps, more_turns, named_blocks};
 pub use lowering::{labels_fit, lower};

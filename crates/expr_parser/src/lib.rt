@@ -4,8 +4,6 @@
 mod lists;
 mod nodes;
 mod parser;
-#[cfg(test)]
-mod tests;
 
 pub use lists::{after, name_of, spot_of};
 pub use parser::{read_expr, read_front};

@@ -6,8 +6,6 @@ mod fault;
 mod laws;
 mod printer;
 mod reader;
-#[cfg(test)]
-mod tests;
 mod text;
 
 pub use fault::AsmFault;

@@ -5,8 +5,6 @@ mod clauses;
 mod form;
 mod sources;
 mod statements;
-#[cfg(test)]
-mod tests;
 
 pub use form::{Promise, StraightLine};
 pub use sources::straight_line;

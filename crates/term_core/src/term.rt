@@ -102,36 +102,3 @@ pub fn sort_of(t: &Term) -> Sort
         Term::Shift(op, _, _) => op.sort(),
     }
 }
-
-#[cfg(test)]
-mod tests {
-    use super::*;
-    use std::alloc::{AllocError, Global};
-    use std::test::Fail;
-
-    fn sum(alloc: Global, a: Term, b: Term) -> Result<Term, AllocError> {
-        Ok(Term::Bin(BinOp::Add, Boxed::new(alloc, a)?, Boxed::new(alloc, b)?))
-    }
-
-    #[test]
-    fn tells_terms_and_sorts_apart(rt: HostRuntime) -> Result<(), Fail> {
-        let alloc = rt.alloc();
-        let words = sum(alloc, Term::W64(1), Term::W64(2))?;
-        let numbers = sum(alloc, Term::Int(1), Term::Int(2))?;
-        let name = Term::Name(Text::from_slice(alloc, b"rax.0")?, Sort::W64);
-        assert!(rt; same(&words, &words));
-        assert!(rt; !same(&words, &numbers));
-        assert!(rt; !same(&name, &words));
-        assert_eq!(rt; sort_of(&words), Sort::W64);
-        assert_eq!(rt; sort_of(&numbers), Sort::Int);
-        assert_eq!(rt; sort_of(&name), Sort::W64);
-        Ok(())
-    }
-
-    #[test]
-    fn tells_calls_apart(rt: HostRuntime) {
-        let call = Term::Call(3, Sort::Arr, Items::new(rt.alloc()));
-        assert!(rt; same(&call, &call));
-        assert_eq!(rt; sort_of(&call), Sort::Arr);
-    }
-}

@@ -1,9 +1,6 @@
 // The program `vale`: the words of its command line, the system's files and streams, and its exit status.
 #![tactic(auto)]
 
-#[cfg(test)]
-mod tests;
-
 use std::io::ErrorKind;
 use std::process::ExitCode;
 use std::{env, io};

@@ -4,6 +4,10 @@
 
 mod answer;
 mod commands;
+mod instructions;
+mod letters;
+mod machines;
+mod plain_run;
 mod report;
 mod script;
 mod sources;

@@ -2,6 +2,7 @@
 
 use crate::answer::{Answer, answer_of};
 use crate::commands::Run;
+use crate::machines::machined;
 use crate::sources::shown;
 use crate::texts::{Named, expanded};
 use anyhow::{Result, bail};
@@ -72,6 +73,14 @@ fn text_answer(alloc: Global, text: Vec<u8>) -> Answer {
     }
 }
 
+// What is read of a text by the library call that a key names; none where it names none.
+fn reading(alloc: Global, key: &[u8], text: &[u8]) -> Result<Option<Vec<u8>>> {
+    match shown(alloc, key, text)? {
+        Some(text) => Ok(Some(text)),
+        None => machined(alloc, key, text),
+    }
+}
+
 // Tries a case: the template with the row's columns in it.
 fn try_case(
     alloc: Global,
@@ -87,7 +96,7 @@ fn try_case(
         match line.key {
             b"answer" => wanted = Some(answer_of(alloc, &value)?),
             b"gives" => wanted = Some(text_answer(alloc, value)),
-            _ => match shown(alloc, line.key, &value)? {
+            key => match reading(alloc, key, &value)? {
                 Some(text) => found = Some(text_answer(alloc, text)),
                 None => run.take(alloc, line, value)?,
             },
@@ -108,7 +117,10 @@ fn try_case(
 }
 
 fn print_answer(rt: &impl Print, what: &str, answer: &Answer) -> Result<()> {
-    let (out, err) = (answer.out.as_slice().as_bstr(), answer.err.as_slice().as_bstr());
+    let (out, err) = (
+        answer.out.as_slice().as_bstr(),
+        answer.err.as_slice().as_bstr(),
+    );
     println!(rt; "  {what} {} {out:?} {err:?}", answer.status)?;
     Ok(())
 }
@@ -140,13 +152,7 @@ impl<'f> Script<'f> {
         Ok(())
     }
 
-    fn take_row(
-        &mut self,
-        rt: &impl Print,
-        alloc: Global,
-        row: &[u8],
-        place: usize,
-    ) -> Result<()> {
+    fn take_row(&mut self, rt: &impl Print, alloc: Global, row: &[u8], place: usize) -> Result<()> {
         let columns = columns_of(alloc, row, &self.texts)?;
         self.cases = self.cases.saturating_add(1);
         if let Some(difference) = try_case(alloc, &self.template, &columns, &self.texts)? {

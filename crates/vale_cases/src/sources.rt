@@ -2,12 +2,15 @@
 
 use anyhow::Result;
 use bstr::ByteSlice;
-use expr_parser::{ExprFault, read_expr};
+use expr_parser::read_expr;
 use sqlite_items::Items;
 use std::alloc::Global;
 use vale_lexer::{LexFault, tokens};
 use vale_parser::{ParseFault, read_decls};
-use vale_syntax::{Decl, Expr, LemmaStmt, Name, Stmt, Token, TokenKind, UnaryOp, print_expr};
+use vale_syntax::{
+    Decl, Expr, LemmaStmt, MatchFault, Name, Stmt, Token, TokenKind, UnaryOp, print_expr,
+    printed_as_spelled,
+};
 
 // The tokens of a text, or why there are none.
 fn scanned(alloc: Global, text: &[u8]) -> Result<Result<Vec<Token>, String>> {
@@ -70,7 +73,13 @@ fn show_expr(out: &mut String, e: &Expr) -> Result<()> {
             }
             out.push_str(")")?;
         }
-        Expr::Index(_, array, at) => show_two(out, "at", array.get(), at.get())?,
+        Expr::Index(_, array, at) => {
+            out.push_str("[at ")?;
+            show_expr(out, array.get())?;
+            out.push_str(" ")?;
+            show_expr(out, at.get())?;
+            out.push_str("]")?;
+        }
         Expr::Unary(_, op, inner) => {
             out.push_str(match op {
                 UnaryOp::Not => "[! ",
@@ -79,19 +88,14 @@ fn show_expr(out: &mut String, e: &Expr) -> Result<()> {
             show_expr(out, inner.get())?;
             out.push_str("]")?;
         }
-        Expr::Binary(_, op, left, right) => show_two(out, op.text(), left.get(), right.get())?,
+        Expr::Binary(_, op, left, right) => {
+            write!(out, "[{} ", op.text())?;
+            show_expr(out, left.get())?;
+            out.push_str(" ")?;
+            show_expr(out, right.get())?;
+            out.push_str("]")?;
+        }
     }
-    Ok(())
-}
-
-fn show_two(out: &mut String, operator: &str, left: &Expr, right: &Expr) -> Result<()> {
-    out.push_str("[")?;
-    out.push_str(operator)?;
-    out.push_str(" ")?;
-    show_expr(out, left)?;
-    out.push_str(" ")?;
-    show_expr(out, right)?;
-    out.push_str("]")?;
     Ok(())
 }
 
@@ -180,16 +184,29 @@ fn show_decls(alloc: Global, out: &mut String, read: &[Token]) -> Result<()> {
     Ok(())
 }
 
-// The expression as it is printed.
-fn print(alloc: Global, out: &mut String, e: &Expr) -> Result<()> {
-    vale_syntax::printed_as_spelled();
-    let text = print_expr(alloc, e)?;
-    push_bytes(out, text.as_bytes())
+// The expression as it is shown or as it is printed.
+fn show_expression(
+    alloc: Global,
+    out: &mut String,
+    read: &[Token],
+    is_printed: bool,
+) -> Result<()> {
+    printed_as_spelled();
+    match read_expr(alloc, read) {
+        Ok(e) if is_printed => push_bytes(out, print_expr(alloc, &e)?.as_bytes())?,
+        Ok(e) => show_expr(out, &e)?,
+        Err(MatchFault::NoMatch) => out.push_str("no")?,
+        Err(MatchFault::NoMemory) => out.push_str("NoMemory")?,
+    }
+    Ok(())
 }
 
 /// What is read of a text, by the reader that a key names; none where it names none.
 pub(crate) fn shown(alloc: Global, key: &[u8], text: &[u8]) -> Result<Option<Vec<u8>>> {
-    if !matches!(key, b"tokens" | b"expression" | b"printed" | b"declarations") {
+    if !matches!(
+        key,
+        b"tokens" | b"expression" | b"printed" | b"declarations"
+    ) {
         return Ok(None);
     }
     let read = match scanned(alloc, text)? {
@@ -200,12 +217,7 @@ pub(crate) fn shown(alloc: Global, key: &[u8], text: &[u8]) -> Result<Option<Vec
     match key {
         b"tokens" => show_tokens(&mut out, &read)?,
         b"declarations" => show_decls(alloc, &mut out, &read)?,
-        _ => match read_expr(alloc, &read) {
-            Ok(e) if matches!(key, b"printed") => print(alloc, &mut out, &e)?,
-            Ok(e) => show_expr(&mut out, &e)?,
-            Err(ExprFault::NotAnExpr) => out.push_str("no")?,
-            Err(ExprFault::NoMemory) => out.push_str("NoMemory")?,
-        },
+        _ => show_expression(alloc, &mut out, &read, matches!(key, b"printed"))?,
     }
     Ok(Some(out.into_bytes()))
 }

@@ -16,3 +16,4 @@ pub mod Quiet
 pub mod OneText
 pub mod Texts
 pub mod Options
+pub mod Askable

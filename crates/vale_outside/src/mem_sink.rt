@@ -81,20 +81,3 @@ impl Sink for MemSink {
         }
     }
 }
-
-#[cfg(test)]
-mod tests {
-    use super::*;
-    use std::test::Fail;
-
-    #[test]
-    fn takes_half_of_a_failing_put(rt: HostRuntime) -> Result<(), Fail> {
-        let mut sink = MemSink::new(rt.alloc());
-        sink.fail_at(2)?;
-        assert_eq!(rt; sink.put(b"one "), Ok(()));
-        assert_eq!(rt; sink.put(b"three"), Err(PutFault::Failed));
-        assert_eq!(rt; sink.put(b" four"), Ok(()));
-        assert_eq!(rt; sink.bytes(), b"one th four".as_slice());
-        Ok(())
-    }
-}

@@ -95,34 +95,3 @@ impl Store for MemStore {
         }
     }
 }
-
-#[cfg(test)]
-mod tests {
-    use super::*;
-    use std::test::Fail;
-
-    #[test]
-    fn fetches_the_newer_file_of_a_name(rt: HostRuntime) -> Result<(), Fail> {
-        let alloc = rt.alloc();
-        let mut store = MemStore::new(alloc);
-        for text in ["old", "new"] {
-            let bytes = Vec::from_slice(alloc, text.as_bytes())?;
-            store.hold(String::from_str(alloc, "a.vale")?, bytes)?;
-        }
-        store.fail_at(2)?;
-        let mut bytes = Vec::new(alloc);
-        assert_eq!(rt; store.fetch("a.vale", 3, &mut bytes), Ok(()));
-        assert_eq!(rt; bytes.as_slice(), b"new".as_slice());
-        let mut nothing = Vec::new(alloc);
-        assert_eq!(rt;
-            store.fetch("a.vale", 3, &mut nothing),
-            Err(FetchFault::Failed)
-        );
-        let mut missing = Vec::new(alloc);
-        assert_eq!(rt;
-            store.fetch("b.vale", 3, &mut missing),
-            Err(FetchFault::Failed)
-        );
-        Ok(())
-    }
-}

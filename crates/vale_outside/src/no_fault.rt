@@ -74,24 +74,3 @@ impl Sink for NoFaultSink {
         Ok(())
     }
 }
-
-#[cfg(test)]
-mod tests {
-    use super::*;
-    use std::test::Fail;
-
-    #[test]
-    fn fetches_what_is_held(rt: HostRuntime) -> Result<(), Fail> {
-        let alloc = rt.alloc();
-        let mut store = NoFaultStore::new(alloc);
-        store.hold(
-            String::from_str(alloc, "a.cert")?,
-            Vec::from_slice(alloc, b"[]")?,
-        )?;
-        let mut bytes = Vec::new(alloc);
-        assert_eq!(rt; store.fetch("a.cert", 2, &mut bytes), Ok(()));
-        assert_eq!(rt; bytes.as_slice(), b"[]".as_slice());
-        assert_eq!(rt; NoFaultSink.put(b"ret"), Ok(()));
-        Ok(())
-    }
-}

@@ -10,8 +10,6 @@ mod parameters;
 mod part;
 mod sources;
 mod statements;
-#[cfg(test)]
-mod tests;
 mod words;
 
 pub use sources::{ParseFault, declared_once, read_decls};

@@ -8,8 +8,6 @@ mod report;
 mod run;
 mod settings;
 mod state;
-#[cfg(test)]
-mod tests;
 mod trace;
 
 pub use end::{End, RunEnd};

@@ -6,8 +6,6 @@ mod arithmetic;
 mod laws;
 mod machine;
 mod step;
-#[cfg(test)]
-mod tests;
 mod versions;
 
 pub use laws::{forms_as_in_the_table, straight_code};

@@ -37,22 +37,3 @@ pub fn version(alloc: Global, place: Place, number: u64) -> Result<Term, NoMemor
     let name = version_name(alloc, place, number)?;
     Ok(Term::Name(name, place_sort(place)))
 }
-
-#[cfg(test)]
-mod tests {
-    use super::*;
-    use std::test::Fail;
-    use term_core::same;
-    use x64_syntax::{FlagName, Reg};
-
-    #[test]
-    fn names_a_place_at_a_version(rt: HostRuntime) -> Result<(), Fail> {
-        let alloc = rt.alloc();
-        let name = version_name(alloc, Place::Reg(Reg::R15), 4096)?;
-        assert_eq!(rt; name.as_bytes(), b"r15.4096".as_slice());
-        let flag = version(alloc, Place::Flag(FlagName::Cf), 0)?;
-        let want = Term::Name(Text::from_slice(alloc, b"cf.0")?, Sort::Int);
-        assert!(rt; same(&flag, &want));
-        Ok(())
-    }
-}

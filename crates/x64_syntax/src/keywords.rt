@@ -77,16 +77,3 @@ pub fn keyword_named(name: &[u8]) -> Option<Keyword>
 {
     table_value(&KEYWORDS, name)
 }
-
-#[cfg(test)]
-mod tests {
-    use super::*;
-
-    #[test]
-    fn tells_keywords_from_other_names(rt: HostRuntime) {
-        assert_eq!(rt; keyword_named(b"inout"), Some(Keyword::InOut));
-        assert_eq!(rt; keyword_named(b"step"), Some(Keyword::Step));
-        assert_eq!(rt; keyword_named(b"Step"), None);
-        assert_eq!(rt; keyword_named(b"steps"), None);
-    }
-}

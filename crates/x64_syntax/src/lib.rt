@@ -16,8 +16,6 @@ mod operations;
 mod place_set;
 mod places;
 mod program;
-#[cfg(test)]
-mod tests;
 mod text;
 mod type_words;
 mod words;

@@ -223,18 +223,3 @@ pub fn gas_named(mnemonic: &[u8]) -> Option<Operation>
         .copied()
         .find(|operation| operation.gas().as_bytes() == mnemonic)
 }
-
-#[cfg(test)]
-mod tests {
-    use super::*;
-
-    #[test]
-    fn instructions_have_their_own_names(rt: HostRuntime) {
-        for operation in Operation::ALL {
-            assert_eq!(rt;
-                operation_named(operation.name().as_bytes()),
-                Some(operation)
-            );
-        }
-    }
-}

@@ -56,25 +56,3 @@ fn has_bit(bits: u16, number: usize) -> bool
 {
     bits >> number & 1 == 1
 }
-
-#[cfg(test)]
-mod tests {
-    use super::*;
-    use crate::places::{FlagName, Reg, Xmm};
-
-    #[test]
-    fn holds_the_places_of_its_bits(rt: HostRuntime) {
-        let set = PlaceSet {
-            regs: 0x8001,
-            xmms: 2,
-            flags: 8,
-        };
-        assert!(rt; set.contains(Place::Reg(Reg::Rax)));
-        assert!(rt; set.contains(Place::Reg(Reg::R15)));
-        assert!(rt; !set.contains(Place::Reg(Reg::Rbx)));
-        assert!(rt; set.contains(Place::Xmm(Xmm::Xmm1)));
-        assert!(rt; set.contains(Place::Flag(FlagName::Of)));
-        assert!(rt; !set.contains(Place::Flag(FlagName::Cf)));
-        assert!(rt; !PlaceSet::EMPTY.contains(Place::Reg(Reg::Rax)));
-    }
-}

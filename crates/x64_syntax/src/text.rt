@@ -107,33 +107,3 @@ impl Eq for Text {
 
     ghost laws = { Prim.search (comparing, rules) };
 }
-
-#[cfg(test)]
-mod tests {
-    use super::*;
-    use std::test::Fail;
-
-    #[test]
-    fn keeps_its_bytes(rt: HostRuntime) -> Result<(), Fail> {
-        let text = Text::from_slice(rt.alloc(), b"rax")?;
-        assert_eq!(rt; text.as_bytes(), b"rax".as_slice());
-        assert!(rt; text == Text::from_vec(Vec::from_slice(rt.alloc(), b"rax")?));
-        Ok(())
-    }
-
-    #[test]
-    fn numbers_are_pushed_in_decimal(rt: HostRuntime) -> Result<(), Fail> {
-        let mut out = Vec::new(rt.alloc());
-        push(&mut out, "n ")?;
-        push_number(&mut out, 0u8)?;
-        push(&mut out, " ")?;
-        push_number(&mut out, u128::MAX)?;
-        push(&mut out, " ")?;
-        push_number(&mut out, i128::MIN)?;
-        assert_eq!(rt;
-            out.as_slice(),
-            b"n 0 340282366920938463463374607431768211455 -170141183460469231731687303715884105728".as_slice()
-        );
-        Ok(())
-    }
-}

@@ -221,28 +221,3 @@ fn is_same(case: Case, a: &[u8], b: &[u8]) -> bool
         Case::Ignored => a.eq_ignore_ascii_case(b),
     }
 }
-
-#[cfg(test)]
-mod tests {
-    use super::*;
-
-    #[test]
-    fn tells_names_from_words_that_are_taken(rt: HostRuntime) {
-        for name in ["inc2", "sum", "x", "slotted", "_"] {
-            assert!(rt;
-                is_name(name.as_bytes()) && !is_reserved(name.as_bytes()),
-                "at {name}"
-            );
-        }
-        for name in ["procedure", "rax", "xmm15", "cf", "Add64", "slot3", "old"] {
-            assert!(rt; is_reserved(name.as_bytes()), "at {name}");
-        }
-        for name in ["", "2x", "a-b", "a.b"] {
-            assert!(rt; !is_name(name.as_bytes()), "at {name}");
-        }
-        for name in ["add", "RAX", "ret", "L1", ""] {
-            assert!(rt; !is_export_name(name.as_bytes()), "at {name}");
-        }
-        assert!(rt; is_export_name(b"gcm_sha_1"));
-    }
-}

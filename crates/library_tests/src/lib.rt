@@ -1,0 +1,16 @@
+//! Tests of what the libraries answer where neither a clause nor a case says it: one happy path for calls that take
+//! memory and that no case makes, edges of words and blocks, files and streams of the system, and places in trees.
+#![tactic(auto)]
+
+#[cfg(test)]
+mod blocks;
+#[cfg(test)]
+mod names;
+#[cfg(test)]
+mod outside;
+#[cfg(test)]
+mod places_in_trees;
+#[cfg(test)]
+mod terms;
+#[cfg(test)]
+mod words;

@@ -1,0 +1,157 @@
+// What the crates of the machine make of a text.
+
+use crate::instructions::form_of;
+use crate::letters::{code_of, items_of, outline};
+use crate::plain_run::{are_alike, ends};
+use anyhow::Result;
+use bstr::ByteSlice;
+use code_lower::{labels_fit, lower};
+use std::alloc::Global;
+use x64_blocks::Blocks;
+use x64_evaluator::{Trace, are_general, read_state, report_of, run_items};
+use x64_meaning::{Flag, Machine, holds, open_flag};
+use x64_syntax::{Code, Cond, Item, Text, code_ok, program_ok};
+
+const CONDITIONS: [Cond; 6] = [Cond::E, Cond::Ne, Cond::B, Cond::Be, Cond::A, Cond::Ae];
+
+/// How many values a report has: 16 registers, 16 xmm registers and four flags.
+const VALUES: usize = 36;
+
+const COUNTERS: [(u64, u64); 6] = [(0, 0), (0, 3), (3, 3), (7, 2), (u64::MAX, 1), (1, 20)];
+
+fn flag_of(letter: Option<&u8>) -> Flag {
+    match letter {
+        Some(b'0') => Flag::Zero,
+        Some(b'1') => Flag::One,
+        _ => Flag::Undefined,
+    }
+}
+
+// For each condition whether it holds, or the flag that it lacks, where the flags are as the letters say.
+fn conditions(alloc: Global, letters: &[u8]) -> Result<String> {
+    let mut m = Machine::new(Blocks::new(alloc));
+    for (k, flag) in m.flags.iter_mut().enumerate() {
+        *flag = flag_of(letters.get(k));
+    }
+    let mut out = String::new(alloc);
+    for c in CONDITIONS {
+        match open_flag(&m, c) {
+            Some(flag) => write!(out, "{} ", flag.name())?,
+            None => write!(out, "{} ", if holds(&m, c) { "yes" } else { "no" })?,
+        }
+    }
+    Ok(out)
+}
+
+fn truth(alloc: Global, is_so: bool) -> Result<String> {
+    Ok(format!(in alloc; "{}", if is_so { "yes" } else { "no" })?)
+}
+
+// The items of code, or none where its labels don't fit.
+fn items(alloc: Global, first: u32, code: &Code) -> Result<Vec<Item>> {
+    if !labels_fit(first, code) {
+        return Ok(Vec::new(alloc));
+    }
+    let name = Text::from_slice(alloc, b"t")?;
+    Ok(lower(alloc, first, &name, code)?)
+}
+
+// `5 Ea|.`: the outline of the items, whose first label has the number.
+fn lowered(alloc: Global, text: &[u8]) -> Result<String> {
+    let (first, letters) = text.split_once_str(b" ").unwrap_or((text, b""));
+    let first = str::from_utf8(first)?.parse::<u32>()?;
+    let code = code_of(alloc, letters)?;
+    let mut out = String::new(alloc);
+    outline(&mut out, &items(alloc, first, &code)?)?;
+    Ok(out)
+}
+
+// Whether code and its items run alike from each of the counters, and how many items there are.
+fn alike(alloc: Global, letters: &[u8]) -> Result<String> {
+    let code = code_of(alloc, letters)?;
+    let items = items(alloc, 0, &code)?;
+    let mut count = 0u32;
+    if code_ok(&code) && program_ok(&items) {
+        for counters in COUNTERS {
+            if are_alike(alloc, &code, &items, 0, counters)? {
+                count = count.wrapping_add(1);
+            }
+        }
+    }
+    Ok(format!(in alloc; "{} items, alike {count} of 6", items.len())?)
+}
+
+// `Ea|. Wc.`: two exports, one behind the other, each run beside its code.
+fn two_exports(alloc: Global, text: &[u8]) -> Result<String> {
+    let (a, b) = text.split_once_str(b" ").unwrap_or((text, b""));
+    let (a, b) = (code_of(alloc, a)?, code_of(alloc, b)?);
+    let mut all = items(alloc, 0, &a)?;
+    let entry = all.len();
+    let labels = all
+        .iter()
+        .filter(|item| matches!(item, Item::Label(_)))
+        .count();
+    let first = u32::try_from(labels)?;
+    let name = Text::from_slice(alloc, b"u")?;
+    if labels_fit(first, &b) {
+        all.append(&mut lower(alloc, first, &name, &b)?)?;
+    }
+    let mut out = String::new(alloc);
+    outline(&mut out, &all)?;
+    let mut is_alike = program_ok(&all);
+    for counters in [(3, 3), (0, 4), (5, 1)] {
+        is_alike = is_alike
+            && are_alike(alloc, &a, &all, 0, counters)?
+            && are_alike(alloc, &b, &all, entry, counters)?;
+    }
+    out.push_str(if is_alike { " alike" } else { " not alike" })?;
+    Ok(out)
+}
+
+// `STEPS ROOM :f a r; STATE`: how a run of items ends whose trace has so much room, the blocks, and what was seen.
+fn halted(alloc: Global, text: &[u8]) -> Result<String> {
+    let (words, state) = text.split_once_str(b"; ").unwrap_or((text, b""));
+    let (steps, words) = words.split_once_str(b" ").unwrap_or((words, b""));
+    let (room, words) = words.split_once_str(b" ").unwrap_or((words, b""));
+    let steps = str::from_utf8(steps)?.parse::<u64>()?;
+    let room = str::from_utf8(room)?.parse::<usize>()?;
+    let items = items_of(alloc, words)?;
+    let lines = state.replace(alloc, b"; ", b"\n")?;
+    let Ok(mut m) = read_state(alloc, &lines) else {
+        return Ok(format!(in alloc; "no state")?);
+    };
+    let mut trace = Trace::with_room(alloc, room)?;
+    if !program_ok(&items)
+        || !are_general(&items)
+        || !matches!(items.first(), Some(Item::Entry(_)))
+    {
+        return Ok(format!(in alloc; "no program")?);
+    }
+    let run = run_items(&items, 0, &mut m, steps, &mut trace);
+    let report = report_of(alloc, run, &m, &trace)?;
+    let mut out = String::new(alloc);
+    for (k, line) in report.as_slice().lines().enumerate() {
+        if k == 0 || k > VALUES {
+            line.to_str_lossy_into(&mut out)?;
+            out.push_str("; ")?;
+        }
+    }
+    Ok(out)
+}
+
+/// What the crates of the machine make of a text, by a key; none where it names no reading of theirs.
+pub(crate) fn machined(alloc: Global, key: &[u8], text: &[u8]) -> Result<Option<Vec<u8>>> {
+    let out = match key {
+        b"form" => form_of(alloc, text)?,
+        b"conditions" => conditions(alloc, text)?,
+        b"program" => truth(alloc, program_ok(&items_of(alloc, text)?))?,
+        b"code" => truth(alloc, code_ok(&code_of(alloc, text)?))?,
+        b"stays" => truth(alloc, ends(alloc, &code_of(alloc, text)?, (0, 0))?)?,
+        b"lowered" => lowered(alloc, text)?,
+        b"alike" => alike(alloc, text)?,
+        b"exports" => two_exports(alloc, text)?,
+        b"halted" => halted(alloc, text)?,
+        _ => return Ok(None),
+    };
+    Ok(Some(out.into_bytes()))
+}
