@@ -1,6 +1,6 @@
 // What the readers of sources make of a text.
 
-use anyhow::Result;
+use anyhow::{Result, bail};
 use bstr::ByteSlice;
 use expr_parser::read_expr;
 use sqlite_items::Items;
@@ -184,16 +184,8 @@ fn show_decls(alloc: Global, out: &mut String, read: &[Token]) -> Result<()> {
     Ok(())
 }
 
-// The expression as it is shown or as it is printed.
-fn show_expression(
-    alloc: Global,
-    out: &mut String,
-    read: &[Token],
-    is_printed: bool,
-) -> Result<()> {
-    printed_as_spelled();
+fn show_expression(alloc: Global, out: &mut String, read: &[Token]) -> Result<()> {
     match read_expr(alloc, read) {
-        Ok(e) if is_printed => push_bytes(out, print_expr(alloc, &e)?.as_bytes())?,
         Ok(e) => show_expr(out, &e)?,
         Err(MatchFault::NoMatch) => out.push_str("no")?,
         Err(MatchFault::NoMemory) => out.push_str("NoMemory")?,
@@ -201,12 +193,27 @@ fn show_expression(
     Ok(())
 }
 
+// The text of the expression that a text spells.
+fn printed(alloc: Global, text: &[u8]) -> Result<Vec<u8>> {
+    if text.len() >= 1 << 32 {
+        bail!("only a shorter text is printed");
+    }
+    let Ok(read) = tokens(alloc, 0, text) else {
+        bail!("only what has tokens is printed");
+    };
+    printed_as_spelled();
+    match read_expr(alloc, read.as_slice()) {
+        Ok(e) => Ok(print_expr(alloc, &e)?.into_bytes()),
+        Err(_) => bail!("only an expression is printed"),
+    }
+}
+
 /// What is read of a text, by the reader that a key names; none where it names none.
 pub(crate) fn shown(alloc: Global, key: &[u8], text: &[u8]) -> Result<Option<Vec<u8>>> {
-    if !matches!(
-        key,
-        b"tokens" | b"expression" | b"printed" | b"declarations"
-    ) {
+    if matches!(key, b"printed") {
+        return Ok(Some(printed(alloc, text)?));
+    }
+    if !matches!(key, b"tokens" | b"expression" | b"declarations") {
         return Ok(None);
     }
     let read = match scanned(alloc, text)? {
@@ -217,7 +224,7 @@ pub(crate) fn shown(alloc: Global, key: &[u8], text: &[u8]) -> Result<Option<Vec
     match key {
         b"tokens" => show_tokens(&mut out, &read)?,
         b"declarations" => show_decls(alloc, &mut out, &read)?,
-        _ => show_expression(alloc, &mut out, &read, matches!(key, b"printed"))?,
+        _ => show_expression(alloc, &mut out, &read)?,
     }
     Ok(Some(out.into_bytes()))
 }
