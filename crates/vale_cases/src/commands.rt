@@ -1,7 +1,6 @@
 // Runs of the program over files in memory.
 
 use crate::answer::Answer;
-use crate::script::Line;
 use anyhow::{Result, bail};
 use bstr::ByteSlice;
 use std::alloc::Global;
@@ -52,19 +51,25 @@ impl Run {
         Ok(())
     }
 
-    /// Takes a line of a case: `words ..`, `file NAME = ..`, `lines NAME = ..` or `fails OBJECT CALL`.
-    pub(crate) fn take(&mut self, alloc: Global, line: &Line<'_>, value: Vec<u8>) -> Result<()> {
-        match line.key {
+    /// Takes a line of a case: `words ..`, `file NAME = ..`, `lines NAME = ..` or `fails OBJECT = CALL`.
+    pub(crate) fn take(
+        &mut self,
+        alloc: Global,
+        key: &[u8],
+        name: &[u8],
+        value: Vec<u8>,
+    ) -> Result<()> {
+        match key {
             b"words" => {
                 for word in value.as_slice().split_str(b" ") {
                     let word = String::from_str(alloc, str::from_utf8(word)?)?;
                     self.words.push(word)?;
                 }
             }
-            b"file" => self.hold(alloc, line.name, value)?,
-            b"lines" => self.hold(alloc, line.name, lines(alloc, &value)?)?,
-            b"fails" => self.fail(line.name, number(&value)?)?,
-            _ => bail!("no line of a run: {:?}", line.key.as_bstr()),
+            b"file" => self.hold(alloc, name, value)?,
+            b"lines" => self.hold(alloc, name, lines(alloc, &value)?)?,
+            b"fails" => self.fail(name, number(&value)?)?,
+            _ => bail!("no line of a run: {:?}", key.as_bstr()),
         }
         Ok(())
     }

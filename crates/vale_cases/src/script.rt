@@ -12,12 +12,12 @@ use std::alloc::Global;
 /// ` → ` in UTF-8.
 const ARROW: &[u8] = b" \xe2\x86\x92 ";
 
-/// A line of a template: `key value`, or `key name = value` where the key's lines have names.
+// A line of a template: `key value`, or `key name = value` where the key's lines have names.
 #[derive(Clone, Copy)]
-pub(crate) struct Line<'f> {
-    pub(crate) key: &'f [u8],
-    pub(crate) name: &'f [u8],
-    pub(crate) value: &'f [u8],
+struct Line<'f> {
+    key: &'f [u8],
+    name: &'f [u8],
+    value: &'f [u8],
 }
 
 #[derive(Drop)]
@@ -98,7 +98,10 @@ fn try_case(
             b"gives" => wanted = Some(text_answer(alloc, value)),
             key => match reading(alloc, key, &value)? {
                 Some(text) => found = Some(text_answer(alloc, text)),
-                None => run.take(alloc, line, value)?,
+                None => {
+                    let name = expanded(alloc, line.name, columns, texts)?;
+                    run.take(alloc, line.key, &name, value)?;
+                }
             },
         }
     }

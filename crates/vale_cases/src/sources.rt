@@ -203,7 +203,7 @@ fn printed(alloc: Global, text: &[u8]) -> Result<Vec<u8>> {
     };
     printed_as_spelled();
     match read_expr(alloc, read.as_slice()) {
-        Ok(e) => Ok(print_expr(alloc, &e)?.into_bytes()),
+        Ok(e) => Ok(Vec::from_slice(alloc, print_expr(alloc, &e)?.as_bytes())?),
         Err(_) => bail!("only an expression is printed"),
     }
 }
