@@ -11,7 +11,7 @@ use Rattle.x64_syntax.specs.declared.items.Item.{Item}
 use Rattle.x64_syntax.specs.declared.items.Item.TheVariants as item
 use Rattle.x64_syntax.specs.Programs.{has_entry, is_item}
 use Rattle.x64_syntax.specs.inner.LabelCount.{label_count}
-use Rattle.asm_lines.specs.Operands.{at_most}
+use Rattle.asm_lines.specs.inner.Assembled.{at_most}
 use Rattle.asm_lines.specs.Lines.{cond_of}
 use Rattle.gas_text.specs.Gas.{line as line_text}
 use Rattle.gas_text.specs.Apart.{cut, found_item, found, called_so, label_of, ins_of}

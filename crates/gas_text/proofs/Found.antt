@@ -18,14 +18,16 @@ use Rattle.x64_syntax.specs.declared.operations.Operation.TheVariants as op
 use Rattle.x64_syntax.specs.Instructions.{form_of}
 use Rattle.x64_syntax.specs.Operations.{spelling, operations}
 use Rattle.asm_lines.specs.declared.lines.Syntax.TheVariants.{Gas}
-use Rattle.asm_lines.specs.Operands.{operands, operation, at_most}
+use Rattle.asm_lines.specs.Operands.{operands, operation}
+use Rattle.asm_lines.specs.inner.Assembled.{at_most}
+use Rattle.asm_lines.proofs.Assembled.{at_most_back}
 use Rattle.asm_lines.specs.Lines.{mnemonic}
 use Rattle.gas_text.specs.Gas.{operands_text, ins_line, line}
 use Rattle.gas_text.specs.Apart.{narrowed, called, ins_of, label_of, item_of, found, found_item}
 use Rattle.gas_text.proofs.Cuts.{lacks, cut_at}
 use Rattle.x64_syntax.proofs.Digits.{read_back}
 use Rattle.gas_text.proofs.Operands.{parts_back}
-use Rattle.gas_text.proofs.Built.{back, at_most_back}
+use Rattle.gas_text.proofs.Built.{back}
 
 -- what is found under an instruction's mnemonic
 record Called (i : Ins) : Type 0 where

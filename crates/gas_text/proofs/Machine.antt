@@ -9,12 +9,12 @@ use Rattle.x64_syntax.specs.declared.items.Item.TheVariants as item
 use Rattle.x64_syntax.specs.Words.{is_export_text}
 use Rattle.x64_syntax.specs.Programs.{begins_with_entry, has_entry, is_item, is_ordered}
 use Rattle.x64_syntax.specs.inner.LabelCount.{label_count}
-use Rattle.asm_lines.specs.Operands.{at_most}
+use Rattle.asm_lines.specs.inner.Assembled.{at_most}
 use Rattle.gas_text.specs.Gas.{line as line_text, lines, unlines, items_text}
 use Rattle.gas_text.specs.Apart.{found_item}
 use Rattle.gas_text.specs.Reading.{Sofar, checked, item_read, global_name, grown, entry_read, global_read, code_read, read_by, next, run}
 use Rattle.gas_text.specs.Text.{Begins}
-use Rattle.gas_text.proofs.Built.{at_most_back}
+use Rattle.asm_lines.proofs.Assembled.{at_most_back}
 use Rattle.gas_text.proofs.Found.{found_ins, found_jmp, found_jcc, found_ret}
 use Rattle.gas_text.proofs.Counts.{is_code, Next, is_code_next, read_checked, bytes_from, bytes_same}
 use Rattle.gas_text.proofs.Order.{Ordered, ordered_parts, ordered_entry, ordered_next, all_behind, entry_behind, labels_behind}

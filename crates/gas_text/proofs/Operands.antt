@@ -14,7 +14,7 @@ use Rattle.asm_lines.specs.declared.forms.Part.{Part}
 use Rattle.asm_lines.specs.declared.forms.Part.TheVariants.{General, Wide, Number, Memory}
 use Rattle.asm_lines.specs.declared.forms.Parts.{Parts}
 use Rattle.asm_lines.specs.declared.forms.Parts.TheVariants.{One, Two, Three}
-use Rattle.asm_lines.specs.Operands.{at_most}
+use Rattle.asm_lines.specs.inner.Assembled.{at_most}
 use Rattle.gas_text.specs.Gas.{index_text, memory_text, part_text, operands_text}
 use Rattle.x64_syntax.specs.inner.Digits.{number_of}
 use Rattle.gas_text.specs.Apart.{cut, number, displacement, scaled, addressed, memory, part_of, parts_of}

@@ -15,7 +15,7 @@ use Rattle.asm_lines.specs.declared.forms.Part.{Part}
 use Rattle.asm_lines.specs.declared.forms.Part.TheVariants.{General, Wide, Number, Memory}
 use Rattle.asm_lines.specs.declared.forms.Parts.{Parts}
 use Rattle.asm_lines.specs.declared.forms.Parts.TheVariants.{One, Two, Three}
-use Rattle.asm_lines.specs.Operands.{instruction, at_most}
+use Rattle.asm_lines.specs.inner.Assembled.{instruction, at_most}
 use Rattle.asm_lines.specs.Lines.{cond_of}
 
 -- what is before the first such byte, and what is behind it

@@ -6,7 +6,7 @@ use Rattle.x64_syntax.specs.declared.items.Item.TheVariants as item
 use Rattle.x64_syntax.specs.Words.{is_export_text}
 use Rattle.x64_syntax.specs.Programs.{is_item, has_entry}
 use Rattle.x64_syntax.specs.inner.LabelCount.{label_count}
-use Rattle.asm_lines.specs.Operands.{at_most}
+use Rattle.asm_lines.specs.inner.Assembled.{at_most}
 use Rattle.gas_text.specs.Gas.{line as line_text}
 use Rattle.gas_text.specs.Apart.{found_item}
 

@@ -2,7 +2,7 @@
 
 ghost use Rattle.std.specs.Prelude.{◌≡◌, pos, option_map};
 ghost use Rattle.x64_syntax.specs.Places.{reg_of};
-ghost use Rattle.asm_lines.specs.Operands.{at_most};
+ghost use Rattle.asm_lines.specs.inner.Assembled.{at_most};
 ghost use Rattle.gas_text.specs.Apart.{cut, before_comma, number, register, displacement, scaled, addressed, memory, named_part, part_of, more_parts, parts_behind, parts_of, narrowed, called, ins_of, label_of, called_so, item_of, found_item};
 
 use asm_lines::{Part, Parts, cond_named, instruction};
