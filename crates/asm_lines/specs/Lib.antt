@@ -1,3 +1,4 @@
 pub mod Operands
 pub mod Lines
 pub mod Listing
+pub mod inner

@@ -1,6 +1,5 @@
 -- What lines are put together from: conditions, and the mnemonics of instructions.
-use Rattle.std.specs.Prelude.{ℕ, List, codes, Option, Some, None, if◌then◌else◌}
-use Rattle.std.specs.Str.{bytes_eq}
+use Rattle.std.specs.Prelude.{ℕ, List, codes}
 use Rattle.x64_syntax.specs.declared.conditions.Cond.{Cond}
 use Rattle.x64_syntax.specs.declared.conditions.Cond.TheVariants as condition
 use Rattle.x64_syntax.specs.declared.operands.Opr.TheVariants.{Imm}
@@ -18,16 +17,6 @@ cond_name condition.B = codes "b"
 cond_name condition.Be = codes "be"
 cond_name condition.A = codes "a"
 cond_name condition.Ae = codes "ae"
-
-abbrev pub cond_of : List ℕ → Option Cond
-cond_of name =
-    if bytes_eq name (codes "e") then Some condition.E
-    else if bytes_eq name (codes "ne") then Some condition.Ne
-    else if bytes_eq name (codes "b") then Some condition.B
-    else if bytes_eq name (codes "be") then Some condition.Be
-    else if bytes_eq name (codes "a") then Some condition.A
-    else if bytes_eq name (codes "ae") then Some condition.Ae
-    else None
 
 -- in GAS syntax the move of a constant has a mnemonic of its own
 abbrev pub mnemonic : Syntax → Ins → List ℕ

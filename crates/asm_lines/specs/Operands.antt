@@ -1,9 +1,5 @@
 -- Instructions as a name and operands, in the order in which a source has them.
-use Rattle.std.specs.Prelude.{ℕ, ◌-◌, ◌^◌, ℤ, pos, negsuc, nat_le, int_le, ◌&&◌, Option, Some, None, option_map, if◌then◌else◌}
-use Rattle.std.specs.Int.{w64, cast_signed}
-use Rattle.x64_syntax.specs.declared.places.Reg.{Reg as GeneralReg}
-use Rattle.x64_syntax.specs.declared.places.Xmm.{Xmm as XmmReg}
-use Rattle.x64_syntax.specs.declared.operands.Mem.{Mem}
+use Rattle.std.specs.Prelude.{pos}
 use Rattle.x64_syntax.specs.declared.operands.Opr.{Opr}
 use Rattle.x64_syntax.specs.declared.operands.Opr.TheVariants.{R, Imm, M}
 use Rattle.x64_syntax.specs.declared.instructions.Ins.{Ins}
@@ -22,12 +18,12 @@ source (Imm z) = Number z
 source (M m) = Memory m
 
 -- the constant of a move has no sign
-abbrev pub moved : Opr → Part
-moved (Imm z) = Number (pos (word_of z))
-moved s = source s
+abbrev pub move_source : Opr → Part
+move_source (Imm z) = Number (pos (word_of z))
+move_source s = source s
 
 abbrev pub operands : Ins → Parts
-operands (Mov d s) = Two (General d) (moved s)
+operands (Mov d s) = Two (General d) (move_source s)
 operands (Store m s) = Two (Memory m) (General s)
 operands (Lea d m) = Two (General d) (Memory m)
 operands (Cmov c d s) = Two (General d) (General s)
@@ -74,72 +70,3 @@ operation (XShift o d n) = op.XShift o
 operation (XIns d s n) = op.XIns
 operation (XExt d s n) = op.XExt
 operation (XMovq d s) = op.XMovq
-
--- The other way: the instruction of a name and operands.
-
--- the number where it is none below zero and at most the limit
-abbrev pub at_most : ℕ → ℤ → Option ℕ
-at_most limit (pos n) = if nat_le n limit then Some n else None
-at_most limit (negsuc n) = None
-
--- the number where it has 64 bits with sign
-abbrev pub within : ℤ → Option ℤ
-within z = if int_le (negsuc (2 ^ 63 - 1)) z && int_le z (pos (2 ^ 63 - 1)) then Some z else None
-
-abbrev pub of_source : Part → Option Opr
-of_source (General r) = Some (R r)
-of_source (Number z) = option_map Imm (within z)
-of_source (Memory m) = Some (M m)
-of_source (Wide x) = None
-
-abbrev pub of_moved : Part → Option Opr
-of_moved (Number z) = option_map (λ n. Imm (cast_signed w64 n)) (at_most (2 ^ 64 - 1) z)
-of_moved p = of_source p
-
-abbrev pub of_one : Operation → Part → Option Ins
-of_one op.Push (General s) = Some (Push s)
-of_one op.Pop (General d) = Some (Pop d)
-of_one (op.One o) (General d) = Some (OneIns o d)
-of_one op.Mul s = option_map Mul (of_source s)
-of_one _ _ = None
-
-abbrev pub of_general : Operation → GeneralReg → Part → Option Ins
-of_general op.Mov d s = option_map (Mov d) (of_moved s)
-of_general op.Lea d (Memory m) = Some (Lea d m)
-of_general (op.Cmov c) d (General s) = Some (Cmov c d s)
-of_general (op.Alu o) d s = option_map (Alu o d) (of_source s)
-of_general (op.Shift o) d (Number z) = option_map (Shift o d) (at_most 255 z)
-of_general op.Imul d s = option_map (Imul d) (of_source s)
-of_general (op.Carry o) d s = option_map (Carry o d) (of_source s)
-of_general _ _ _ = None
-
-abbrev pub of_wide : Operation → XmmReg → Part → Option Ins
-of_wide op.Movdqu d (Wide s) = Some (XMov d s)
-of_wide op.Movdqu d (Memory m) = Some (XLoad d m)
-of_wide (op.XBin o) d (Wide s) = Some (XBin o d s)
-of_wide (op.XShift o) d (Number z) = option_map (XShift o d) (at_most 255 z)
-of_wide op.XMovq d (General s) = Some (XMovq d s)
-of_wide _ _ _ = None
-
-abbrev pub of_memory : Operation → Mem → Part → Option Ins
-of_memory op.Store m (General s) = Some (Store m s)
-of_memory op.Movdqu m (Wide s) = Some (XStore m s)
-of_memory _ _ _ = None
-
-abbrev pub of_two : Operation → Part → Part → Option Ins
-of_two o (General d) s = of_general o d s
-of_two o (Wide d) s = of_wide o d s
-of_two o (Memory m) s = of_memory o m s
-of_two o (Number z) s = None
-
-abbrev pub of_three : Operation → Part → Part → Part → Option Ins
-of_three op.Mulx (General high) (General low) s = option_map (Mulx high low) (of_source s)
-of_three op.XShuf (Wide d) (Wide s) (Number z) = option_map (XShuf d s) (at_most 255 z)
-of_three op.XIns (Wide d) (General s) (Number z) = option_map (XIns d s) (at_most 255 z)
-of_three op.XExt (General d) (Wide s) (Number z) = option_map (XExt d s) (at_most 255 z)
-of_three _ _ _ _ = None
-
-abbrev pub instruction : Operation → Parts → Option Ins
-instruction o (One a) = of_one o a
-instruction o (Two d s) = of_two o d s
-instruction o (Three d a b) = of_three o d a b

@@ -1,8 +1,12 @@
 // Instructions as a name and operands.
 
-ghost use Rattle.std.specs.Prelude.{◌≡◌, ℤ, pos, negsuc};
+ghost use Rattle.std.specs.Prelude.{◌≡◌, IfSome, Some, ℤ, pos, negsuc};
+ghost use Rattle.x64_syntax.specs.declared.instructions.Ins.{Ins as AnIns};
+ghost use Rattle.x64_syntax.specs.inner.Fields.{FieldsFit};
 ghost use Rattle.asm_lines.specs.declared.forms.Part.TheVariants as part;
-ghost use Rattle.asm_lines.specs.Operands.{source, moved, operands, operation, at_most, within, of_source, of_moved, of_one, of_general, of_wide, of_memory, of_two, of_three, instruction};
+ghost use Rattle.asm_lines.specs.declared.forms.Parts.TheVariants as parts;
+ghost use Rattle.asm_lines.specs.Operands.{source, move_source, operands as operands_of, operation as operation_of};
+ghost use Rattle.asm_lines.specs.inner.Assembled.{at_most, within, of_source, of_move_source, of_one, of_general, of_wide, of_memory, of_two, of_three, instruction};
 
 use x64_syntax::{Ins, Mem, Operation, Opr, Reg, Xmm};
 
@@ -34,8 +38,8 @@ fn source(s: Opr) -> Part
 }
 
 // The source of a move, whose constant has no sign.
-fn moved(s: Opr) -> Part
-    ensures { result ≡ moved s }
+fn move_source(s: Opr) -> Part
+    ensures { result ≡ move_source s }
 {
     match s {
         Opr::Imm(n) => Part::Number(i128::from(n.cast_unsigned())),
@@ -51,10 +55,10 @@ fn count(n: u8) -> Part
 
 /// The operands of an instruction.
 pub fn operands(ins: &Ins) -> Parts
-    ensures { result ≡ operands ins.now }
+    ensures { result ≡ operands_of ins.now }
 {
     match *ins {
-        Ins::Mov { d, s } => Parts::Two(Part::General(d), moved(s)),
+        Ins::Mov { d, s } => Parts::Two(Part::General(d), move_source(s)),
         Ins::Store { m, s } => Parts::Two(Part::Memory(m), Part::General(s)),
         Ins::Lea { d, m } => Parts::Two(Part::General(d), Part::Memory(m)),
         Ins::Cmov { d, s, .. } => Parts::Two(Part::General(d), Part::General(s)),
@@ -79,7 +83,7 @@ pub fn operands(ins: &Ins) -> Parts
 
 /// What an instruction is by its name.
 pub fn operation(ins: &Ins) -> Operation
-    ensures { result ≡ operation ins.now }
+    ensures { result ≡ operation_of ins.now }
 {
     match *ins {
         Ins::Mov { .. } => Operation::Mov,
@@ -106,13 +110,15 @@ pub fn operation(ins: &Ins) -> Operation
 }
 
 fn byte(n: i128) -> Option<u8>
-    ensures { result ≡ at_most 255 n }
+    ensures found { IfSome result (λ k. pos k ≡ n) }
+    ensures same { result ≡ at_most 255 n }
 {
     u8::try_from(n).ok()
 }
 
 fn of_source(part: Part) -> Option<Opr>
-    ensures { result ≡ of_source part }
+    ensures found { IfSome result (λ s. source s ≡ part) }
+    ensures same { result ≡ of_source part }
 {
     match part {
         Part::General(reg) => Some(Opr::R(reg)),
@@ -122,8 +128,9 @@ fn of_source(part: Part) -> Option<Opr>
     }
 }
 
-fn of_moved(part: Part) -> Option<Opr>
-    ensures { result ≡ of_moved part }
+fn of_move_source(part: Part) -> Option<Opr>
+    ensures found { IfSome result (λ s. move_source s ≡ part) }
+    ensures same { result ≡ of_move_source part }
 {
     match part {
         Part::Number(n) => Some(Opr::Imm(u64::try_from(n).ok()?.cast_signed())),
@@ -132,7 +139,8 @@ fn of_moved(part: Part) -> Option<Opr>
 }
 
 fn of_one(operation: Operation, a: Part) -> Option<Ins>
-    ensures { result ≡ of_one operation a }
+    ensures found { IfSome result (λ i. (operation_of i ≡ operation) × (operands_of i ≡ parts.One a)) }
+    ensures same { result ≡ of_one operation a }
 {
     match (operation, a) {
         (Operation::Push, Part::General(s)) => Some(Ins::Push { s }),
@@ -144,10 +152,14 @@ fn of_one(operation: Operation, a: Part) -> Option<Ins>
 }
 
 fn of_general(operation: Operation, d: Reg, s: Part) -> Option<Ins>
-    ensures { result ≡ of_general operation d s }
+    ensures found { IfSome result (λ i. (operation_of i ≡ operation) × (operands_of i ≡ parts.Two (part.General d) s)) }
+    ensures same { result ≡ of_general operation d s }
 {
     match (operation, s) {
-        (Operation::Mov, s) => Some(Ins::Mov { d, s: of_moved(s)? }),
+        (Operation::Mov, s) => Some(Ins::Mov {
+            d,
+            s: of_move_source(s)?,
+        }),
         (Operation::Lea, Part::Memory(m)) => Some(Ins::Lea { d, m }),
         (Operation::Cmov(c), Part::General(s)) => Some(Ins::Cmov { c, d, s }),
         (Operation::Alu(op), s) => Some(Ins::Alu {
@@ -170,7 +182,8 @@ fn of_general(operation: Operation, d: Reg, s: Part) -> Option<Ins>
 }
 
 fn of_wide(operation: Operation, d: Xmm, s: Part) -> Option<Ins>
-    ensures { result ≡ of_wide operation d s }
+    ensures found { IfSome result (λ i. (operation_of i ≡ operation) × (operands_of i ≡ parts.Two (part.Wide d) s)) }
+    ensures same { result ≡ of_wide operation d s }
 {
     match (operation, s) {
         (Operation::Movdqu, Part::Wide(s)) => Some(Ins::XMov { d, s }),
@@ -183,7 +196,8 @@ fn of_wide(operation: Operation, d: Xmm, s: Part) -> Option<Ins>
 }
 
 fn of_memory(operation: Operation, m: Mem, s: Part) -> Option<Ins>
-    ensures { result ≡ of_memory operation m s }
+    ensures found { IfSome result (λ i. (operation_of i ≡ operation) × (operands_of i ≡ parts.Two (part.Memory m) s)) }
+    ensures same { result ≡ of_memory operation m s }
 {
     match (operation, s) {
         (Operation::Store, Part::General(s)) => Some(Ins::Store { m, s }),
@@ -193,7 +207,8 @@ fn of_memory(operation: Operation, m: Mem, s: Part) -> Option<Ins>
 }
 
 fn of_two(operation: Operation, d: Part, s: Part) -> Option<Ins>
-    ensures { result ≡ of_two operation d s }
+    ensures found { IfSome result (λ i. (operation_of i ≡ operation) × (operands_of i ≡ parts.Two d s)) }
+    ensures same { result ≡ of_two operation d s }
 {
     match d {
         Part::General(d) => of_general(operation, d, s),
@@ -204,7 +219,8 @@ fn of_two(operation: Operation, d: Part, s: Part) -> Option<Ins>
 }
 
 fn of_three(operation: Operation, d: Part, a: Part, b: Part) -> Option<Ins>
-    ensures { result ≡ of_three operation d a b }
+    ensures found { IfSome result (λ i. (operation_of i ≡ operation) × (operands_of i ≡ parts.Three d a b)) }
+    ensures same { result ≡ of_three operation d a b }
 {
     match (operation, d, a, b) {
         (Operation::Mulx, Part::General(hi), Part::General(lo), s) => Some(Ins::Mulx {
@@ -225,9 +241,11 @@ fn of_three(operation: Operation, d: Part, a: Part, b: Part) -> Option<Ins>
     }
 }
 
-/// The instruction of a name and operands, where there is one.
+/// The instruction of this name and with these operands, where there is one. The last clause is for proofs.
 pub fn instruction(operation: Operation, operands: Parts) -> Option<Ins>
-    ensures { result ≡ instruction operation operands }
+    ensures found { IfSome result (λ i. (operation_of i ≡ operation) × (operands_of i ≡ operands)) }
+    ensures only { (i : AnIns) → FieldsFit i → operation_of i ≡ operation → operands_of i ≡ operands → result ≡ Some i }
+    ensures same { result ≡ instruction operation operands }
 {
     match operands {
         Parts::One(a) => of_one(operation, a),

@@ -2,7 +2,8 @@
 
 ghost use Rattle.std.specs.Prelude.{◌≡◌};
 ghost use Rattle.x64_syntax.specs.declared.conditions.Cond.TheVariants as condition;
-ghost use Rattle.asm_lines.specs.Lines.{cond_name, cond_of, mnemonic};
+ghost use Rattle.asm_lines.specs.Lines.{cond_name, mnemonic};
+ghost use Rattle.asm_lines.specs.inner.Conditions.{cond_of};
 
 use crate::forms::operation;
 use x64_syntax::{Cond, Ins, Opr};

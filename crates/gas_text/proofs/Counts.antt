@@ -11,11 +11,11 @@ use Rattle.x64_syntax.specs.declared.items.Item.{Item}
 use Rattle.x64_syntax.specs.declared.items.Item.TheVariants as item
 use Rattle.x64_syntax.specs.Programs.{has_entry, is_item}
 use Rattle.x64_syntax.specs.inner.LabelCount.{label_count}
-use Rattle.asm_lines.specs.Operands.{at_most}
-use Rattle.asm_lines.specs.Lines.{cond_of}
+use Rattle.asm_lines.specs.inner.Assembled.{at_most}
+use Rattle.asm_lines.specs.inner.Conditions.{cond_of}
 use Rattle.gas_text.specs.Gas.{line as line_text}
-use Rattle.gas_text.specs.Apart.{cut, found_item, found, called_so, label_of, ins_of}
-use Rattle.gas_text.specs.Reading.{entry_names, checked, candidate, item_read}
+use Rattle.gas_text.specs.inner.Apart.{sides_of, found_item, item_of_sides, item_by_mnemonic, label_of, ins_of}
+use Rattle.gas_text.specs.inner.Reading.{entry_names, item_of_line, candidate, item_read}
 
 pub names_last_entry : (is : List Item) (name : List ℕ) → entry_names (is ++ item.Entry name ∷ []) ≡ entry_names is ++ name ∷ []
 names_last_entry [] name = refl
@@ -85,17 +85,17 @@ chained : {A : Type 0} (f : A → Option Item) (o : Option A) → ((a : A) → T
 chained f None h = tt
 chained f (Some a) h = h a
 
-called_tabbed : (mnemonic text : List ℕ) → Tabbed (called_so mnemonic text)
+called_tabbed : (mnemonic text : List ℕ) → Tabbed (item_by_mnemonic mnemonic text)
 called_tabbed [] text = tt
 called_tabbed (b ∷ bs) text = either (b == 106) (option_and_then (λ c. option_map (item.Jcc c) (label_of text)) (cond_of bs)) (option_map item.Ins (ins_of (b ∷ bs) text)) (chained (λ c. option_map (item.Jcc c) (label_of text)) (cond_of bs) (λ c. mapped (item.Jcc c) (label_of text) (λ l. refl))) (mapped item.Ins (ins_of (b ∷ bs) text) (λ i. refl))
 
-found_tabbed : (o : Option (List ℕ × List ℕ)) → Tabbed (found o)
+found_tabbed : (o : Option (List ℕ × List ℕ)) → Tabbed (item_of_sides o)
 found_tabbed None = refl
-found_tabbed (Some p) = either (bytes_eq p.0 (codes "jmp")) (option_map item.Jmp (label_of p.1)) (called_so p.0 p.1) (mapped item.Jmp (label_of p.1) (λ l. refl)) (called_tabbed p.0 p.1)
+found_tabbed (Some p) = either (bytes_eq p.0 (codes "jmp")) (option_map item.Jmp (label_of p.1)) (item_by_mnemonic p.0 p.1) (mapped item.Jmp (label_of p.1) (λ l. refl)) (called_tabbed p.0 p.1)
 
 item_tabbed : (line : List ℕ) → Tabbed (found_item line)
 item_tabbed [] = tt
-item_tabbed (b ∷ bs) = either (b == 9) (found (cut 32 bs)) None (found_tabbed (cut 32 bs)) tt
+item_tabbed (b ∷ bs) = either (b == 9) (item_of_sides (sides_of 32 bs)) None (found_tabbed (sides_of 32 bs)) tt
 
 -- an item that can be read behind so many labels: with a tab, or the next label
 abbrev pub Next : ℕ → Option Item → Type 0
@@ -133,7 +133,7 @@ pub record Checked (count : ℕ) (line : List ℕ) (i : Item) : Type 0 where
 
 pub read_checked : (count : ℕ) (line : List ℕ) (i : Item) → item_read count line ≡ Some i → Checked count line i
 read_checked count line i e = by_candidate (candidate count line) (candidate_next count line) e where
-  by_candidate : (o : Option Item) → Next count o → checked o line ≡ Some i → Checked count line i
+  by_candidate : (o : Option Item) → Next count o → item_of_line o line ≡ Some i → Checked count line i
   by_candidate None h e = absurd cc
   by_candidate (Some j) h e = by_test (is_item j && bytes_eq (line_text j) line) refl e where
     by_test : (t : Bool) → (is_item j && bytes_eq (line_text j) line) ≡ t → (if t then Some j else None) ≡ Some i → Checked count line i

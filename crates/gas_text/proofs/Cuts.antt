@@ -5,21 +5,21 @@ use Rattle.std.specs.List.{list_all}
 use Rattle.std.proofs.lemmas.List.{append-nil}
 use Rattle.std.proofs.lemmas.Bool.{and_parts, and_from, eqb-true, eq-eqb, false≢true, not-true, false_from_ne_true}
 use Rattle.x64_syntax.specs.Words.{is_name_byte}
-use Rattle.gas_text.specs.Apart.{cut, before_comma, front_of}
+use Rattle.gas_text.specs.inner.Apart.{sides_of, before_comma, front_of}
 
-pub cut_nowhere : (b : ℕ) (xs : List ℕ) → ((k : ℕ) → k < length xs → (slice_index xs k == b) ≡ true → ⊥) → cut b xs ≡ None
+pub cut_nowhere : (b : ℕ) (xs : List ℕ) → ((k : ℕ) → k < length xs → (slice_index xs k == b) ≡ true → ⊥) → sides_of b xs ≡ None
 cut_nowhere b [] no_ = refl
 cut_nowhere b (x ∷ xs) no_ =
     let other = false_from_ne_true (x == b) (no_ 0 (omega arith)) in
-    ap (λ (t : Bool). if t then Some ([], xs) else option_map (λ p. (x ∷ p.0, p.1)) (cut b xs)) other
+    ap (λ (t : Bool). if t then Some ([], xs) else option_map (λ p. (x ∷ p.0, p.1)) (sides_of b xs)) other
     ∙ ap (λ o. option_map (λ p. (x ∷ p.0, p.1)) o) (cut_nowhere b xs (λ k lt. no_ (suc k) (omega (arith, lt))))
 
-pub cut_first : (b : ℕ) (xs : List ℕ) (k : ℕ) → k < length xs → ((j : ℕ) → j < k → (slice_index xs j == b) ≡ true → ⊥) → (slice_index xs k == b) ≡ true → cut b xs ≡ Some (take k xs, drop 1 (drop k xs))
+pub cut_first : (b : ℕ) (xs : List ℕ) (k : ℕ) → k < length xs → ((j : ℕ) → j < k → (slice_index xs j == b) ≡ true → ⊥) → (slice_index xs k == b) ≡ true → sides_of b xs ≡ Some (take k xs, drop 1 (drop k xs))
 cut_first b [] k lt before at = absurd (omega (arith, lt))
-cut_first b (x ∷ xs) zero lt before at = ap (λ (t : Bool). if t then Some ([], xs) else option_map (λ p. (x ∷ p.0, p.1)) (cut b xs)) at
+cut_first b (x ∷ xs) zero lt before at = ap (λ (t : Bool). if t then Some ([], xs) else option_map (λ p. (x ∷ p.0, p.1)) (sides_of b xs)) at
 cut_first b (x ∷ xs) (suc k) lt before at =
     let other = false_from_ne_true (x == b) (before 0 (omega arith)) in
-    ap (λ (t : Bool). if t then Some ([], xs) else option_map (λ p. (x ∷ p.0, p.1)) (cut b xs)) other
+    ap (λ (t : Bool). if t then Some ([], xs) else option_map (λ p. (x ∷ p.0, p.1)) (sides_of b xs)) other
     ∙ ap (λ o. option_map (λ p. (x ∷ p.0, p.1)) o) (cut_first b xs k (omega (arith, lt)) (λ j lt_j. before (suc j) (omega (arith, lt_j))) at)
 
 -- no such byte is in the text
@@ -37,32 +37,32 @@ behind front None = None
 behind front (Some p) = Some (front ++ p.0, p.1)
 
 -- a text without the byte is passed over
-pub cut_behind : (b : ℕ) (front rest : List ℕ) → lacks b front ≡ true → cut b (front ++ rest) ≡ behind front (cut b rest)
-cut_behind b [] rest h = same (cut b rest) where
+pub cut_behind : (b : ℕ) (front rest : List ℕ) → lacks b front ≡ true → sides_of b (front ++ rest) ≡ behind front (sides_of b rest)
+cut_behind b [] rest h = same (sides_of b rest) where
   same : (o : Option (List ℕ × List ℕ)) → o ≡ behind [] o
   same None = refl
   same (Some p) = refl
 cut_behind b (x ∷ xs) rest h =
     let p = and_parts (not (x == b)) _ h in
-    ap (λ (t : Bool). if t then Some ([], xs ++ rest) else option_map (λ p. (x ∷ p.0, p.1)) (cut b (xs ++ rest))) (not-true (x == b) p.0)
+    ap (λ (t : Bool). if t then Some ([], xs ++ rest) else option_map (λ p. (x ∷ p.0, p.1)) (sides_of b (xs ++ rest))) (not-true (x == b) p.0)
     ∙ ap (λ o. option_map (λ p. (x ∷ p.0, p.1)) o) (cut_behind b xs rest p.1)
-    ∙ twice (cut b rest)
+    ∙ twice (sides_of b rest)
   where
     twice : (o : Option (List ℕ × List ℕ)) → option_map (λ p. (x ∷ p.0, p.1)) (behind xs o) ≡ behind (x ∷ xs) o
     twice None = refl
     twice (Some p) = refl
 
-pub cut_at : (b : ℕ) (front rest : List ℕ) → lacks b front ≡ true → cut b (front ++ b ∷ rest) ≡ Some (front, rest)
+pub cut_at : (b : ℕ) (front rest : List ℕ) → lacks b front ≡ true → sides_of b (front ++ b ∷ rest) ≡ Some (front, rest)
 cut_at b front rest h =
     cut_behind b front (b ∷ rest) h
-    ∙ ap (λ (t : Bool). behind front (if t then Some ([], rest) else option_map (λ p. (b ∷ p.0, p.1)) (cut b rest))) (eq-eqb b b refl)
+    ∙ ap (λ (t : Bool). behind front (if t then Some ([], rest) else option_map (λ p. (b ∷ p.0, p.1)) (sides_of b rest))) (eq-eqb b b refl)
     ∙ ap (λ f. Some (f, rest)) (append-nil front)
 
-pub cut_none : (b : ℕ) (text : List ℕ) → lacks b text ≡ true → cut b text ≡ None
+pub cut_none : (b : ℕ) (text : List ℕ) → lacks b text ≡ true → sides_of b text ≡ None
 cut_none b [] h = refl
 cut_none b (x ∷ xs) h =
     let p = and_parts (not (x == b)) _ h in
-    ap (λ (t : Bool). if t then Some ([], xs) else option_map (λ p. (x ∷ p.0, p.1)) (cut b xs)) (not-true (x == b) p.0)
+    ap (λ (t : Bool). if t then Some ([], xs) else option_map (λ p. (x ∷ p.0, p.1)) (sides_of b xs)) (not-true (x == b) p.0)
     ∙ ap (λ o. option_map (λ p. (x ∷ p.0, p.1)) o) (cut_none b xs p.1)
 
 -- the bytes of names and numbers

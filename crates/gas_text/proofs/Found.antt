@@ -18,22 +18,24 @@ use Rattle.x64_syntax.specs.declared.operations.Operation.TheVariants as op
 use Rattle.x64_syntax.specs.Instructions.{form_of}
 use Rattle.x64_syntax.specs.Operations.{spelling, operations}
 use Rattle.asm_lines.specs.declared.lines.Syntax.TheVariants.{Gas}
-use Rattle.asm_lines.specs.Operands.{operands, operation, at_most}
+use Rattle.asm_lines.specs.Operands.{operands, operation}
+use Rattle.asm_lines.specs.inner.Assembled.{at_most}
+use Rattle.asm_lines.proofs.Assembled.{at_most_back}
 use Rattle.asm_lines.specs.Lines.{mnemonic}
 use Rattle.gas_text.specs.Gas.{operands_text, ins_line, line}
-use Rattle.gas_text.specs.Apart.{narrowed, called, ins_of, label_of, item_of, found, found_item}
+use Rattle.gas_text.specs.inner.Apart.{operation_by_operands, mnemonic_operation, ins_of, label_of, item_of, item_of_sides, found_item}
 use Rattle.gas_text.proofs.Cuts.{lacks, cut_at}
 use Rattle.x64_syntax.proofs.Digits.{read_back}
 use Rattle.gas_text.proofs.Operands.{parts_back}
-use Rattle.gas_text.proofs.Built.{back, at_most_back}
+use Rattle.gas_text.proofs.Built.{back}
 
 -- what is found under an instruction's mnemonic
 record Called (i : Ins) : Type 0 where
   pub unbroken : lacks 32 (mnemonic Gas i) ≡ true
   pub clean : lacks 10 (mnemonic Gas i) ≡ true
   pub base : Operation
-  pub called : called (mnemonic Gas i) ≡ Some base
-  pub narrow : narrowed base (operands i) ≡ operation i
+  pub called : mnemonic_operation (mnemonic Gas i) ≡ Some base
+  pub narrow : operation_by_operands base (operands i) ≡ operation i
   pub item : (text : List ℕ) → item_of (mnemonic Gas i) text ≡ option_map item.Ins (ins_of (mnemonic Gas i) text)
 
 named : (i : Ins) → Called i
@@ -102,7 +104,7 @@ ins_found i h =
 pub found_ins : (i : Ins) → is_ok (form_of i) ≡ true → found_item (ins_line i) ≡ Some (item.Ins i)
 found_ins i h =
     let n = named i in
-    ap found (cut_at 32 (mnemonic Gas i) (operands_text (operands i)) n.unbroken)
+    ap item_of_sides (cut_at 32 (mnemonic Gas i) (operands_text (operands i)) n.unbroken)
     ∙ n.item (operands_text (operands i))
     ∙ ap (λ o. option_map item.Ins o) (ins_found i h)
 

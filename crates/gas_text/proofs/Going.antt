@@ -8,8 +8,8 @@ use Rattle.std.proofs.lemmas.List.{append-nil, append_assoc, append_cancel_left}
 use Rattle.x64_syntax.specs.declared.items.Item.{Item}
 use Rattle.x64_syntax.specs.Programs.{is_ordered}
 use Rattle.gas_text.specs.Gas.{unlines, items_text, gas_text}
-use Rattle.gas_text.specs.Apart.{cut}
-use Rattle.gas_text.specs.Reading.{Sofar, next, run}
+use Rattle.gas_text.specs.inner.Apart.{sides_of}
+use Rattle.gas_text.specs.inner.Reading.{Sofar, next, run}
 use Rattle.gas_text.specs.Text.{newlines, Begins, BadLine, bad, early}
 use Rattle.gas_text.proofs.Cuts.{lacks, cut_at}
 use Rattle.gas_text.proofs.Counts.{bytes_same}
@@ -31,10 +31,10 @@ abbrev second : Option (List ℕ × List ℕ) → List ℕ
 second None = []
 second (Some p) = p.1
 
-pub cut_splits : (b : ℕ) (xs front rest : List ℕ) → cut b xs ≡ Some (front, rest) → Split b xs front rest
+pub cut_splits : (b : ℕ) (xs front rest : List ℕ) → sides_of b xs ≡ Some (front, rest) → Split b xs front rest
 cut_splits b [] front rest e = absurd cc
-cut_splits b (x ∷ xs) front rest e = by_test (x == b) refl (cut b xs) refl (λ f r k. cut_splits b xs f r k) e where
-  by_test : (t : Bool) → (x == b) ≡ t → (o : Option (List ℕ × List ℕ)) → cut b xs ≡ o → ((f r : List ℕ) → cut b xs ≡ Some (f, r) → Split b xs f r) → if◌then◌else◌ {A = Option (List ℕ × List ℕ)} t (Some ([], xs)) (option_map (λ p. (x ∷ p.0, p.1)) o) ≡ Some (front, rest) → Split b (x ∷ xs) front rest
+cut_splits b (x ∷ xs) front rest e = by_test (x == b) refl (sides_of b xs) refl (λ f r k. cut_splits b xs f r k) e where
+  by_test : (t : Bool) → (x == b) ≡ t → (o : Option (List ℕ × List ℕ)) → sides_of b xs ≡ o → ((f r : List ℕ) → sides_of b xs ≡ Some (f, r) → Split b xs f r) → if◌then◌else◌ {A = Option (List ℕ × List ℕ)} t (Some ([], xs)) (option_map (λ p. (x ∷ p.0, p.1)) o) ≡ Some (front, rest) → Split b (x ∷ xs) front rest
   by_test true t o h go e =
       let nothing : [] ≡ front = ap first e in
       let same : xs ≡ rest = ap second e in
@@ -46,10 +46,10 @@ cut_splits b (x ∷ xs) front rest e = by_test (x == b) refl (cut b xs) refl (λ
       let same : p.1 ≡ rest = ap second e in
       subst (λ f. Split b (x ∷ xs) f rest) longer (record { is = ap (λ l. x ∷ l) s.is ∙ ap (λ r. x ∷ (p.0 ++ b ∷ r)) same; clean = and_from _ _ (ap not t) s.clean })
 
-pub cut_lacks : (b : ℕ) (xs : List ℕ) → cut b xs ≡ None → lacks b xs ≡ true
+pub cut_lacks : (b : ℕ) (xs : List ℕ) → sides_of b xs ≡ None → lacks b xs ≡ true
 cut_lacks b [] e = refl
-cut_lacks b (x ∷ xs) e = by_test (x == b) (cut b xs) refl (λ k. cut_lacks b xs k) e where
-  by_test : (t : Bool) (o : Option (List ℕ × List ℕ)) → cut b xs ≡ o → (cut b xs ≡ None → lacks b xs ≡ true) → if◌then◌else◌ {A = Option (List ℕ × List ℕ)} t (Some ([], xs)) (option_map (λ p. (x ∷ p.0, p.1)) o) ≡ None → (not t && lacks b xs) ≡ true
+cut_lacks b (x ∷ xs) e = by_test (x == b) (sides_of b xs) refl (λ k. cut_lacks b xs k) e where
+  by_test : (t : Bool) (o : Option (List ℕ × List ℕ)) → sides_of b xs ≡ o → (sides_of b xs ≡ None → lacks b xs ≡ true) → if◌then◌else◌ {A = Option (List ℕ × List ℕ)} t (Some ([], xs)) (option_map (λ p. (x ∷ p.0, p.1)) o) ≡ None → (not t && lacks b xs) ≡ true
   by_test true o h go e = absurd cc
   by_test false None h go e = go h
   by_test false (Some p) h go e = absurd cc
@@ -62,7 +62,7 @@ pub record Going (text rest : List ℕ) (so : Sofar) (number : ℕ) : Type 0 whe
   pub ran : run start done ≡ Some so
   pub line : number ≡ length done + 2
 
-pub going_start : (text rest : List ℕ) → cut 10 text ≡ Some (codes ".text", rest) → Going text rest start 2
+pub going_start : (text rest : List ℕ) → sides_of 10 text ≡ Some (codes ".text", rest) → Going text rest start 2
 going_start text rest e = record { done = []; clean = refl; is = (cut_splits 10 text (codes ".text") rest e).is; ran = refl; line = refl }
 
 module _ (text rest : List ℕ) (so : Sofar) (number : ℕ) (g : Going text rest so number) where
@@ -84,7 +84,7 @@ module _ (text rest : List ℕ) (so : Sofar) (number : ℕ) (g : Going text rest
   unfolding front
   front_lines_are = let a = newlines_lines g.done g.clean in let b = g.line in omega (arith, a, b)
 
-  module _ (line behind : List ℕ) (c : cut 10 rest ≡ Some (line, behind)) where
+  module _ (line behind : List ℕ) (c : sides_of 10 rest ≡ Some (line, behind)) where
     split : Split 10 rest line behind
     split = cut_splits 10 rest line behind c
 
@@ -123,7 +123,7 @@ module _ (text rest : List ℕ) (so : Sofar) (number : ℕ) (g : Going text rest
             no_option : {A : Type 0} {a : A} → None ≡ Some a → ⊥
             no_option e = cc
 
-  module _ (c : cut 10 rest ≡ None) where
+  module _ (c : sides_of 10 rest ≡ None) where
     lacks_rest : lacks 10 rest ≡ true
     lacks_rest = cut_lacks 10 rest c
 
@@ -166,28 +166,28 @@ unfolding items_text
 nothing_begins = record { items = []; rest = codes ".text\n"; ordered = refl; is = refl }
 
 -- a text without the first line
-pub no_start : (text : List ℕ) → ((rest : List ℕ) → cut 10 text ≡ Some (codes ".text", rest) → ⊥) → BadLine text 1
-no_start text other = by_cut (cut 10 text) refl where
-  by_cut : (o : Option (List ℕ × List ℕ)) → cut 10 text ≡ o → BadLine text 1
-  by_cut None c = early [] text refl (newlines_none text (cut_lacks 10 text c)) nothing_begins (λ items h e. other (items_text items) (ap (cut 10) (sym e) ∙ cut_at 10 (codes ".text") (items_text items) refl)) refl
+pub no_start : (text : List ℕ) → ((rest : List ℕ) → sides_of 10 text ≡ Some (codes ".text", rest) → ⊥) → BadLine text 1
+no_start text other = by_cut (sides_of 10 text) refl where
+  by_cut : (o : Option (List ℕ × List ℕ)) → sides_of 10 text ≡ o → BadLine text 1
+  by_cut None c = early [] text refl (newlines_none text (cut_lacks 10 text c)) nothing_begins (λ items h e. other (items_text items) (ap (sides_of 10) (sym e) ∙ cut_at 10 (codes ".text") (items_text items) refl)) refl
   by_cut (Some p) c =
       let s = cut_splits 10 text p.0 p.1 c in
       bad [] p.0 p.1 s.is (newlines_none p.0 s.clean) nothing_begins
       (λ b. let same : Some (codes ".text", items_text b.items) ≡ Some (p.0, b.rest) =
-      sym (cut_at 10 (codes ".text") (items_text b.items) refl) ∙ ap (cut 10) (b.is ∙ append_assoc p.0 (codes "\n") b.rest) ∙ cut_at 10 p.0 b.rest s.clean in
+      sym (cut_at 10 (codes ".text") (items_text b.items) refl) ∙ ap (sides_of 10) (b.is ∙ append_assoc p.0 (codes "\n") b.rest) ∙ cut_at 10 p.0 b.rest s.clean in
       let line : codes ".text" ≡ p.0 = ap (λ o. first o) same in
       other p.1 (c ∙ ap (λ l. Some (l, p.1)) (sym line)))
       refl
 
-pub no_start_none : (text : List ℕ) → cut 10 text ≡ None → BadLine text 1
+pub no_start_none : (text : List ℕ) → sides_of 10 text ≡ None → BadLine text 1
 no_start_none text c = no_start text (λ rest e. no_option (sym c ∙ e)) where
   no_option : {A : Type 0} {a : A} → None ≡ Some a → ⊥
   no_option e = cc
 
-pub no_start_other : (text line rest : List ℕ) → cut 10 text ≡ Some (line, rest) → bytes_eq line (codes ".text") ≡ false → BadLine text 1
+pub no_start_other : (text line rest : List ℕ) → sides_of 10 text ≡ Some (line, rest) → bytes_eq line (codes ".text") ≡ false → BadLine text 1
 no_start_other text line rest c h = no_start text (λ r e. false≢true (sym h ∙ ap (λ l. bytes_eq l (codes ".text")) (ap (λ o. first o) (sym c ∙ e)) ∙ bytes_same (codes ".text")))
 
-pub shorter : (text line behind : List ℕ) → cut 10 text ≡ Some (line, behind) → length behind < length text
+pub shorter : (text line behind : List ℕ) → sides_of 10 text ≡ Some (line, behind) → length behind < length text
 shorter text line behind c =
     let s = cut_splits 10 text line behind c in
     let l = ap (λ t. length t) s.is in

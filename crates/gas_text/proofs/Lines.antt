@@ -20,7 +20,7 @@ use Rattle.asm_lines.specs.Operands.{operands}
 use Rattle.asm_lines.specs.Lines.{mnemonic}
 use Rattle.gas_text.specs.Gas.{part_text, operands_text, line, lines, unlines, items_text}
 use Rattle.gas_text.specs.Text.{newlines}
-use Rattle.gas_text.specs.Apart.{cut}
+use Rattle.gas_text.specs.inner.Apart.{sides_of}
 use Rattle.gas_text.proofs.Cuts.{is_plain, lacks, lacks_append, lacks_plain, cut_at}
 use Rattle.gas_text.proofs.Operands.{readable_pos, Legible, AllLegible, part_lacks, newline_outside}
 use Rattle.gas_text.proofs.Built.{back}
@@ -123,7 +123,7 @@ front_lines (l ∷ ls) (m ∷ ks) rest h k e =
     let p = and_parts (lacks 10 l) _ h in
     let q = and_parts (lacks 10 m) _ k in
     let same : Some (m, unlines ks) ≡ Some (l, unlines ls ++ rest) =
-    sym (cut_at 10 m (unlines ks) q.0) ∙ ap (cut 10) (e ∙ append_assoc l (codes "\n" ++ unlines ls) rest) ∙ cut_at 10 l (unlines ls ++ rest) p.0 in
+    sym (cut_at 10 m (unlines ks) q.0) ∙ ap (sides_of 10) (e ∙ append_assoc l (codes "\n" ++ unlines ls) rest) ∙ cut_at 10 l (unlines ls ++ rest) p.0 in
     let line : m ≡ l = ap (λ o. first o) same in
     let after : unlines ks ≡ unlines ls ++ rest = ap (λ o. second o) same in
     let f = front_lines ls ks rest p.1 q.1 after in

@@ -9,12 +9,12 @@ use Rattle.x64_syntax.specs.declared.items.Item.TheVariants as item
 use Rattle.x64_syntax.specs.Words.{is_export_text}
 use Rattle.x64_syntax.specs.Programs.{begins_with_entry, has_entry, is_item, is_ordered}
 use Rattle.x64_syntax.specs.inner.LabelCount.{label_count}
-use Rattle.asm_lines.specs.Operands.{at_most}
+use Rattle.asm_lines.specs.inner.Assembled.{at_most}
 use Rattle.gas_text.specs.Gas.{line as line_text, lines, unlines, items_text}
-use Rattle.gas_text.specs.Apart.{found_item}
-use Rattle.gas_text.specs.Reading.{Sofar, checked, item_read, global_name, grown, entry_read, global_read, code_read, read_by, next, run}
+use Rattle.gas_text.specs.inner.Apart.{found_item}
+use Rattle.gas_text.specs.inner.Reading.{Sofar, item_of_line, item_read, global_name, with_item, entry_read, global_read, code_read, read_by, next, run}
 use Rattle.gas_text.specs.Text.{Begins}
-use Rattle.gas_text.proofs.Built.{at_most_back}
+use Rattle.asm_lines.proofs.Assembled.{at_most_back}
 use Rattle.gas_text.proofs.Found.{found_ins, found_jmp, found_jcc, found_ret}
 use Rattle.gas_text.proofs.Counts.{is_code, Next, is_code_next, read_checked, bytes_from, bytes_same}
 use Rattle.gas_text.proofs.Order.{Ordered, ordered_parts, ordered_entry, ordered_next, all_behind, entry_behind, labels_behind}
@@ -53,10 +53,10 @@ pub record Grows (so after : Sofar) (l : List ℕ) : Type 0 where
 
 grows_entry : (is : List Item) (name l : List ℕ) (after : Sofar) → Valid (record { items = is; awaited = Some name }) → entry_read is name l ≡ Some after → Grows (record { items = is; awaited = Some name }) after l
 grows_entry is name l after v e = by_test (bytes_eq l (name ++ codes ":")) refl e where
-  by_test : (t : Bool) → bytes_eq l (name ++ codes ":") ≡ t → (if t then Some (grown is (item.Entry name)) else None) ≡ Some after → Grows (record { items = is; awaited = Some name }) after l
+  by_test : (t : Bool) → bytes_eq l (name ++ codes ":") ≡ t → (if t then Some (with_item is (item.Entry name)) else None) ≡ Some after → Grows (record { items = is; awaited = Some name }) after l
   by_test false t e = absurd cc
   by_test true t e =
-      let same : grown is (item.Entry name) ≡ after = cc in
+      let same : with_item is (item.Entry name) ≡ after = cc in
       let own = bytes_from l (name ++ codes ":") t in
       let p = and_parts (is_export_text name) _ v.fresh in
       let declared = codes ".globl " ++ (name ++ codes "\n") in
@@ -101,11 +101,11 @@ code_lines item.Ret h = refl
 grows_code : (is : List Item) (l : List ℕ) (after : Sofar) → Valid (record { items = is; awaited = None }) → code_read is l ≡ Some after → Grows (record { items = is; awaited = None }) after l
 grows_code [] l after v e = absurd cc
 grows_code (i ∷ is) l after v e = by_read (item_read (label_count (i ∷ is)) l) refl e where
-  by_read : (o : Option Item) → item_read (label_count (i ∷ is)) l ≡ o → option_map (grown (i ∷ is)) o ≡ Some after → Grows (record { items = i ∷ is; awaited = None }) after l
+  by_read : (o : Option Item) → item_read (label_count (i ∷ is)) l ≡ o → option_map (with_item (i ∷ is)) o ≡ Some after → Grows (record { items = i ∷ is; awaited = None }) after l
   by_read None r e = absurd cc
   by_read (Some j) r e =
       let all = i ∷ is in
-      let same : grown all j ≡ after = cc in
+      let same : with_item all j ≡ after = cc in
       let c = read_checked (label_count all) l j r in
       let code = is_code_next (label_count all) j c.next in
       subst (λ s. Grows (record { items = all; awaited = None }) s l) same (record {
@@ -168,14 +168,14 @@ begins so v = by_awaited so.items so.awaited v where
 
 read_tabbed : (count : ℕ) (i : Item) (l : List ℕ) → line_text i ≡ 9 ∷ l → is_item i ≡ true → found_item (9 ∷ l) ≡ Some i → item_read count (9 ∷ l) ≡ Some i
 read_tabbed count i l own is found =
-    ap (λ o. checked o (9 ∷ l)) found
+    ap (λ o. item_of_line o (9 ∷ l)) found
     ∙ ap (λ (t : Bool). if t then Some i else None) (and_from (is_item i) (bytes_eq (line_text i) (9 ∷ l)) is (ap (λ t. bytes_eq t (9 ∷ l)) own ∙ bytes_same (9 ∷ l)))
 
 read_label : (count l : ℕ) → l ≡ count → nat_lt l (2 ^ 32) ≡ true → item_read count (line_text (item.Label l)) ≡ Some (item.Label l)
 read_label count l same h =
     let lt = ltb-true l (2 ^ 32) h in
     let found : at_most (2 ^ 32 - 1) (pos count) ≡ Some l = ap (λ c. at_most (2 ^ 32 - 1) (pos c)) (sym same) ∙ at_most_back (2 ^ 32 - 1) l (omega (arith, lt)) in
-    ap (λ o. checked (option_map item.Label o) (line_text (item.Label l))) found
+    ap (λ o. item_of_line (option_map item.Label o) (line_text (item.Label l))) found
     ∙ ap (λ (t : Bool). if t then Some (item.Label l) else None) (and_from _ (bytes_eq (line_text (item.Label l)) (line_text (item.Label l))) h (bytes_same (line_text (item.Label l))))
 
 -- an item that isn't an entry is read from its line
@@ -209,7 +209,7 @@ next_of front item.Ret rest o h = refl
 item_of : (front : List Item) (i : Item) (rest : List Item) → Ordered (front ++ i ∷ rest) → is_item i ≡ true
 item_of front i rest o = (and_parts (is_item i) _ (all_behind is_item front (i ∷ rest) o.items)).0
 
-step_code : (front : List Item) (i : Item) (rest : List Item) → Ordered (front ++ i ∷ rest) → is_code i ≡ true → run (record { items = front; awaited = None }) (lines i) ≡ Some (grown front i)
+step_code : (front : List Item) (i : Item) (rest : List Item) → Ordered (front ++ i ∷ rest) → is_code i ≡ true → run (record { items = front; awaited = None }) (lines i) ≡ Some (with_item front i)
 step_code [] i rest o h = absurd (no_entry i h o.begins) where
   no_entry : (i : Item) → is_code i ≡ true → begins_with_entry (i ∷ rest) ≡ true → ⊥
   no_entry (item.Entry name) h b = false≢true h
@@ -222,17 +222,17 @@ step_code (j ∷ front) i rest o h =
     let read = reads_code (label_count (j ∷ front)) i (item_of (j ∷ front) i rest o) (next_of (j ∷ front) i rest o h) in
     ap (run (record { items = j ∷ front; awaited = None })) (code_lines i h)
     ∙ ap (λ g. option_and_then (λ s. run s []) (read_by None g (j ∷ front) (line_text i))) (not_global i h)
-    ∙ ap (λ o. option_and_then (λ s. run s []) (option_map (grown (j ∷ front)) o)) read
+    ∙ ap (λ o. option_and_then (λ s. run s []) (option_map (with_item (j ∷ front)) o)) read
 
-step_entry : (front : List Item) (name : List ℕ) (rest : List Item) → Ordered (front ++ item.Entry name ∷ rest) → run (record { items = front; awaited = None }) (lines (item.Entry name)) ≡ Some (grown front (item.Entry name))
+step_entry : (front : List Item) (name : List ℕ) (rest : List Item) → Ordered (front ++ item.Entry name ∷ rest) → run (record { items = front; awaited = None }) (lines (item.Entry name)) ≡ Some (with_item front (item.Entry name))
 step_entry front name rest o =
     let allowed = item_of front (item.Entry name) rest o in
     let new = entry_behind front rest name o.differ in
     let awaiting : Sofar = record { items = front; awaited = Some name } in
     ap (λ (t : Bool). option_and_then (λ s. run s ((name ++ codes ":") ∷ [])) (if t then Some awaiting else None)) (and_from (is_export_text name) (not (has_entry name front)) allowed (ap not new))
-    ∙ ap (λ (t : Bool). option_and_then (λ s. run s []) (if t then Some (grown front (item.Entry name)) else None)) (bytes_same (name ++ codes ":"))
+    ∙ ap (λ (t : Bool). option_and_then (λ s. run s []) (if t then Some (with_item front (item.Entry name)) else None)) (bytes_same (name ++ codes ":"))
 
-step_item : (front : List Item) (i : Item) (rest : List Item) → Ordered (front ++ i ∷ rest) → run (record { items = front; awaited = None }) (lines i) ≡ Some (grown front i)
+step_item : (front : List Item) (i : Item) (rest : List Item) → Ordered (front ++ i ∷ rest) → run (record { items = front; awaited = None }) (lines i) ≡ Some (with_item front i)
 step_item front (item.Entry name) rest o = step_entry front name rest o
 step_item front (item.Ins j) rest o = step_code front (item.Ins j) rest o refl
 step_item front (item.Label l) rest o = step_code front (item.Label l) rest o refl

@@ -8,7 +8,8 @@ use Rattle.x64_syntax.specs.declared.places.Xmm.TheVariants.{Xmm0, Xmm1, Xmm2, X
 use Rattle.x64_syntax.specs.declared.conditions.Cond.{Cond}
 use Rattle.x64_syntax.specs.declared.conditions.Cond.TheVariants as condition
 use Rattle.x64_syntax.specs.Places.{reg_name, xmm_name, reg_of}
-use Rattle.asm_lines.specs.Lines.{cond_name, cond_of}
+use Rattle.asm_lines.specs.Lines.{cond_name}
+use Rattle.asm_lines.specs.inner.Conditions.{cond_of}
 use Rattle.gas_text.proofs.Cuts.{is_plain}
 
 pub reg_plain : (r : GeneralReg) → list_all is_plain (reg_name r) ≡ true

@@ -8,7 +8,7 @@ use Rattle.x64_syntax.specs.Programs.{is_ordered, stray_jump, program_ok}
 use Rattle.gas_text.specs.declared.fault.AsmFault.{AsmFault}
 use Rattle.gas_text.specs.declared.fault.AsmFault.TheVariants.{Line, Label, NoMemory}
 use Rattle.gas_text.specs.Gas.{unlines, gas_text}
-use Rattle.gas_text.specs.Reading.{Sofar, run}
+use Rattle.gas_text.specs.inner.Reading.{Sofar, run}
 use Rattle.gas_text.specs.Text.{BadLine, bad, early, Strays, ReadsAs, Reads}
 use Rattle.gas_text.proofs.Order.{ordered_parts}
 use Rattle.gas_text.proofs.Lines.{all_lines, text_lines, all_lines_clean, front_lines}

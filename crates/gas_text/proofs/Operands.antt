@@ -14,10 +14,10 @@ use Rattle.asm_lines.specs.declared.forms.Part.{Part}
 use Rattle.asm_lines.specs.declared.forms.Part.TheVariants.{General, Wide, Number, Memory}
 use Rattle.asm_lines.specs.declared.forms.Parts.{Parts}
 use Rattle.asm_lines.specs.declared.forms.Parts.TheVariants.{One, Two, Three}
-use Rattle.asm_lines.specs.Operands.{at_most}
+use Rattle.asm_lines.specs.inner.Assembled.{at_most}
 use Rattle.gas_text.specs.Gas.{index_text, memory_text, part_text, operands_text}
 use Rattle.x64_syntax.specs.inner.Digits.{number_of}
-use Rattle.gas_text.specs.Apart.{cut, number, displacement, scaled, addressed, memory, part_of, parts_of}
+use Rattle.gas_text.specs.inner.Apart.{sides_of, number, displacement, index_of, address_of, memory, part_of, parts_of}
 use Rattle.gas_text.proofs.Cuts.{is_plain, lacks, lacks_append, lacks_plain, cut_at, cut_none, differ, Ended, before_end}
 use Rattle.x64_syntax.proofs.Digits.{are_digits, read_back}
 use Rattle.x64_syntax.proofs.ReadBack.{reg_back, xmm_back}
@@ -92,20 +92,20 @@ Legible (Number z) = Readable z
 Legible (Memory m) = Addressable m
 Legible _ = Unit {0}
 
-scaled_back : (r : GeneralReg) (n : ℕ) → Readable (pos n) → at_most 255 (pos n) ≡ Some n → scaled (codes "%" ++ (reg_name r ++ (codes "," ++ decimal n))) ≡ Some (r, n)
+scaled_back : (r : GeneralReg) (n : ℕ) → Readable (pos n) → at_most 255 (pos n) ≡ Some n → index_of (codes "%" ++ (reg_name r ++ (codes "," ++ decimal n))) ≡ Some (r, n)
 scaled_back r n h fits =
-    let e : cut 44 (37 ∷ (reg_name r ++ 44 ∷ decimal n)) ≡ Some (37 ∷ reg_name r, decimal n) = cut_at 44 (37 ∷ reg_name r) (decimal n) (lacks_plain 44 (reg_name r) refl (reg_plain r)) in
+    let e : sides_of 44 (37 ∷ (reg_name r ++ 44 ∷ decimal n)) ≡ Some (37 ∷ reg_name r, decimal n) = cut_at 44 (37 ∷ reg_name r) (decimal n) (lacks_plain 44 (reg_name r) refl (reg_plain r)) in
     rw (e, reg_back r, h.back, fits) refl
 
-addressed_back : (m : Mem) → Addressable m → addressed m.disp (codes "%" ++ (reg_name m.base ++ index_text m.index)) (cut 44 (codes "%" ++ (reg_name m.base ++ index_text m.index))) ≡ Some m
+addressed_back : (m : Mem) → Addressable m → address_of m.disp (codes "%" ++ (reg_name m.base ++ index_text m.index)) (sides_of 44 (codes "%" ++ (reg_name m.base ++ index_text m.index))) ≡ Some m
 addressed_back m h = by_index m.index refl h.scale where
-  by_index : (i : Option (GeneralReg × ℕ)) → m.index ≡ i → IfSome i (λ i. Readable (pos i.1) × (at_most 255 (pos i.1) ≡ Some i.1)) → addressed m.disp (codes "%" ++ (reg_name m.base ++ index_text i)) (cut 44 (codes "%" ++ (reg_name m.base ++ index_text i))) ≡ Some m
+  by_index : (i : Option (GeneralReg × ℕ)) → m.index ≡ i → IfSome i (λ i. Readable (pos i.1) × (at_most 255 (pos i.1) ≡ Some i.1)) → address_of m.disp (codes "%" ++ (reg_name m.base ++ index_text i)) (sides_of 44 (codes "%" ++ (reg_name m.base ++ index_text i))) ≡ Some m
   by_index None e k =
-      let none : cut 44 (37 ∷ (reg_name m.base ++ [])) ≡ None = ap (λ t. cut 44 (37 ∷ t)) (append-nil (reg_name m.base)) ∙ cut_none 44 (37 ∷ reg_name m.base) (lacks_plain 44 (reg_name m.base) refl (reg_plain m.base)) in
+      let none : sides_of 44 (37 ∷ (reg_name m.base ++ [])) ≡ None = ap (λ t. sides_of 44 (37 ∷ t)) (append-nil (reg_name m.base)) ∙ cut_none 44 (37 ∷ reg_name m.base) (lacks_plain 44 (reg_name m.base) refl (reg_plain m.base)) in
       rw (none, append-nil (reg_name m.base), reg_back m.base) (ap (λ i. Some (record { base = m.base; index = i; disp = m.disp })) (sym e))
   by_index (Some i) e k =
       let inner = codes "%" ++ (reg_name i.0 ++ (codes "," ++ decimal i.1)) in
-      let some : cut 44 (37 ∷ (reg_name m.base ++ 44 ∷ inner)) ≡ Some (37 ∷ reg_name m.base, inner) = cut_at 44 (37 ∷ reg_name m.base) inner (lacks_plain 44 (reg_name m.base) refl (reg_plain m.base)) in
+      let some : sides_of 44 (37 ∷ (reg_name m.base ++ 44 ∷ inner)) ≡ Some (37 ∷ reg_name m.base, inner) = cut_at 44 (37 ∷ reg_name m.base) inner (lacks_plain 44 (reg_name m.base) refl (reg_plain m.base)) in
       rw (some, reg_back m.base, scaled_back i.0 i.1 k.0 k.1) (ap (λ j. Some (record { base = m.base; index = j; disp = m.disp })) (sym e))
 
 -- an index lacks a byte that isn't one of its own
@@ -127,9 +127,9 @@ memory_split m end =
 memory_back : (m : Mem) (end : List ℕ) → Addressable m → memory (memory_text m ++ end) ≡ Some m
 memory_back m end h =
     let inner = codes "%" ++ (reg_name m.base ++ index_text m.index) in
-    let opened : cut 40 (signed_decimal m.disp ++ 40 ∷ (inner ++ 41 ∷ end)) ≡ Some (signed_decimal m.disp, inner ++ 41 ∷ end) =
+    let opened : sides_of 40 (signed_decimal m.disp ++ 40 ∷ (inner ++ 41 ∷ end)) ≡ Some (signed_decimal m.disp, inner ++ 41 ∷ end) =
     cut_at 40 (signed_decimal m.disp) (inner ++ 41 ∷ end) (lacks_plain 40 (signed_decimal m.disp) refl h.disp.plain) in
-    let closed : cut 41 (inner ++ 41 ∷ end) ≡ Some (inner, end) =
+    let closed : sides_of 41 (inner ++ 41 ∷ end) ≡ Some (inner, end) =
     cut_at 41 inner end (lacks_append 41 (reg_name m.base) (index_text m.index) (lacks_plain 41 (reg_name m.base) refl (reg_plain m.base)) (lacks_index 41 refl refl refl m.index h.scale)) in
     ap memory (memory_split m end) ∙ rw (opened, closed, h.disp.back, h.short) (addressed_back m h)
 
@@ -174,9 +174,9 @@ part_lacks b o (Memory m) h =
     (lacks_append b (index_text m.index) (codes ")") (lacks_index b o.plain o.comma o.index m.index h.scale) o.closes)))
 
 -- the text behind an operand and its comma
-next_part : (p : Part) (rest : List ℕ) → Legible p → cut 32 (part_text p ++ (codes ", " ++ rest)) ≡ Some (part_text p ++ codes ",", rest)
+next_part : (p : Part) (rest : List ℕ) → Legible p → sides_of 32 (part_text p ++ (codes ", " ++ rest)) ≡ Some (part_text p ++ codes ",", rest)
 next_part p rest h =
-    ap (cut 32) (sym (append_assoc (part_text p) (codes ",") (codes " " ++ rest)))
+    ap (sides_of 32) (sym (append_assoc (part_text p) (codes ",") (codes " " ++ rest)))
     ∙ cut_at 32 (part_text p ++ codes ",") rest (lacks_append 32 (part_text p) (codes ",") (part_lacks 32 blank_outside p h) refl)
 
 last_part : (p : Part) → Legible p → part_of (part_text p) ≡ Some p

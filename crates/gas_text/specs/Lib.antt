@@ -1,5 +1,3 @@
 pub mod Gas
-pub mod Apart
-pub mod Reading
 pub mod Text
-pub mod Readers
+pub mod inner

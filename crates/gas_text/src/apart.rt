@@ -2,16 +2,16 @@
 
 ghost use Rattle.std.specs.Prelude.{◌≡◌, pos, option_map};
 ghost use Rattle.x64_syntax.specs.Places.{reg_of};
-ghost use Rattle.asm_lines.specs.Operands.{at_most};
-ghost use Rattle.gas_text.specs.Apart.{cut, before_comma, number, register, displacement, scaled, addressed, memory, named_part, part_of, more_parts, parts_behind, parts_of, narrowed, called, ins_of, label_of, called_so, item_of, found_item};
+ghost use Rattle.asm_lines.specs.inner.Assembled.{at_most};
+ghost use Rattle.gas_text.specs.inner.Apart.{sides_of, before_comma, number, register, displacement, index_of, address_of, memory, register_part, part_of, more_parts, parts_behind, parts_of, operation_by_operands, mnemonic_operation, ins_of, label_of, item_by_mnemonic, item_of, found_item};
 
 use asm_lines::{Part, Parts, cond_named, instruction};
 use memchr::memchr;
 use x64_syntax::{Ins, Item, Mem, Operation, Reg, gas_named, read_number, reg_named, xmm_named};
 
 /// What is before the first such byte, and what is behind it.
-pub(crate) fn cut(text: &[u8], at: u8) -> Option<(&[u8], &[u8])>
-    ensures { option_map (λ p. (p.0.now, p.1.now)) result ≡ cut at text.now }
+pub(crate) fn sides_of(text: &[u8], at: u8) -> Option<(&[u8], &[u8])>
+    ensures { option_map (λ p. (p.0.now, p.1.now)) result ≡ sides_of at text.now }
 {
     let place = memchr(at, text)?;
     let (front, back) = text.split_at(place);
@@ -21,7 +21,7 @@ pub(crate) fn cut(text: &[u8], at: u8) -> Option<(&[u8], &[u8])>
 fn before_comma(text: &[u8]) -> &[u8]
     ensures { result.now ≡ before_comma text.now }
 {
-    match cut(text, b',') {
+    match sides_of(text, b',') {
         Some((front, _)) => front,
         None => text,
     }
@@ -58,19 +58,19 @@ fn displacement(n: i128) -> Option<i32>
     i32::try_from(n).ok()
 }
 
-fn scaled(text: &[u8]) -> Option<(Reg, u8)>
-    ensures { result ≡ scaled text.now }
+fn index_of(text: &[u8]) -> Option<(Reg, u8)>
+    ensures { result ≡ index_of text.now }
 {
-    let (index, scale) = cut(text, b',')?;
+    let (index, scale) = sides_of(text, b',')?;
     let index = register(index)?;
     Some((index, byte(number(scale)?)?))
 }
 
 // The memory operand with a displacement and what is between its parentheses.
-fn addressed(disp: i32, inside: &[u8]) -> Option<Mem>
-    ensures { result ≡ addressed disp inside.now (cut 44 inside.now) }
+fn address_of(disp: i32, inside: &[u8]) -> Option<Mem>
+    ensures { result ≡ address_of disp inside.now (sides_of 44 inside.now) }
 {
-    match cut(inside, b',') {
+    match sides_of(inside, b',') {
         None => Some(Mem {
             base: register(inside)?,
             index: None,
@@ -78,7 +78,7 @@ fn addressed(disp: i32, inside: &[u8]) -> Option<Mem>
         }),
         Some((base, index)) => Some(Mem {
             base: register(base)?,
-            index: Some(scaled(index)?),
+            index: Some(index_of(index)?),
             disp,
         }),
     }
@@ -87,13 +87,13 @@ fn addressed(disp: i32, inside: &[u8]) -> Option<Mem>
 fn memory(text: &[u8]) -> Option<Mem>
     ensures { result ≡ memory text.now }
 {
-    let (disp, rest) = cut(text, b'(')?;
-    let (inside, _) = cut(rest, b')')?;
-    addressed(displacement(number(disp)?)?, inside)
+    let (disp, rest) = sides_of(text, b'(')?;
+    let (inside, _) = sides_of(rest, b')')?;
+    address_of(displacement(number(disp)?)?, inside)
 }
 
-fn named_part(name: &[u8]) -> Option<Part>
-    ensures { result ≡ named_part (reg_of name.now) name.now }
+fn register_part(name: &[u8]) -> Option<Part>
+    ensures { result ≡ register_part (reg_of name.now) name.now }
 {
     match reg_named(name) {
         Some(reg) => Some(Part::General(reg)),
@@ -107,7 +107,7 @@ fn part(text: &[u8]) -> Option<Part>
 {
     match text {
         [] => None,
-        [b'%', rest @ ..] => named_part(before_comma(rest)),
+        [b'%', rest @ ..] => register_part(before_comma(rest)),
         [b'$', rest @ ..] => Some(Part::Number(number(before_comma(rest))?)),
         _ => Some(Part::Memory(memory(text)?)),
     }
@@ -117,19 +117,19 @@ fn parts(text: &[u8]) -> Option<Parts>
     ensures { result ≡ parts_of text.now }
 {
     let last = part(text)?;
-    let Some((_, text)) = cut(text, b' ') else {
+    let Some((_, text)) = sides_of(text, b' ') else {
         return Some(Parts::One(last));
     };
     let middle = part(text)?;
-    let Some((_, text)) = cut(text, b' ') else {
+    let Some((_, text)) = sides_of(text, b' ') else {
         return Some(Parts::Two(middle, last));
     };
     Some(Parts::Three(part(text)?, middle, last))
 }
 
 // Three instructions are called `movq`: they differ in what is written.
-fn narrowed(operation: Operation, parts: Parts) -> Operation
-    ensures { result ≡ narrowed operation parts }
+fn operation_by_operands(operation: Operation, parts: Parts) -> Operation
+    ensures { result ≡ operation_by_operands operation parts }
 {
     match (operation, parts) {
         (Operation::Mov, Parts::Two(Part::Memory(_), _)) => Operation::Store,
@@ -138,8 +138,8 @@ fn narrowed(operation: Operation, parts: Parts) -> Operation
     }
 }
 
-fn called(mnemonic: &[u8]) -> Option<Operation>
-    ensures { result ≡ called mnemonic.now }
+fn mnemonic_operation(mnemonic: &[u8]) -> Option<Operation>
+    ensures { result ≡ mnemonic_operation mnemonic.now }
 {
     if mnemonic == b"movabsq".as_slice() {
         return Some(Operation::Mov);
@@ -151,7 +151,10 @@ fn ins(mnemonic: &[u8], text: &[u8]) -> Option<Ins>
     ensures { result ≡ ins_of mnemonic.now text.now }
 {
     let parts = parts(text)?;
-    instruction(narrowed(called(mnemonic)?, parts), parts)
+    instruction(
+        operation_by_operands(mnemonic_operation(mnemonic)?, parts),
+        parts,
+    )
 }
 
 fn label(text: &[u8]) -> Option<u32>
@@ -186,7 +189,7 @@ pub(crate) fn found_item(line: &[u8]) -> Option<Item>
     let [b'\t', line @ ..] = line else {
         return None;
     };
-    match cut(line, b' ') {
+    match sides_of(line, b' ') {
         None => Some(Item::Ret),
         Some((mnemonic, text)) => item(mnemonic, text),
     }

@@ -3,8 +3,8 @@
 ghost use Rattle.std.specs.Prelude.{◌≡◌, ◌∷◌, ◌++◌, [], None, Some, codes, option_map, is_none, if◌then◌else◌, IfOk, IsTrue};
 ghost use Rattle.std.specs.Str.{bytes_eq};
 ghost use Rattle.x64_syntax.specs.inner.LabelCount.{label_count};
-ghost use Rattle.gas_text.specs.Reading.{candidate, item_read, global_name, entry_read, global_read, code_read, next};
-ghost use Rattle.gas_text.specs.Readers.{sofar, Kept};
+ghost use Rattle.gas_text.specs.inner.Reading.{candidate, item_read, global_name, entry_read, global_read, code_read, next};
+ghost use Rattle.gas_text.specs.inner.Readers.{sofar, Kept};
 
 use crate::apart::found_item;
 use crate::printer::push_line;

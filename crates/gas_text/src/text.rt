@@ -6,7 +6,7 @@ ghost use Rattle.x64_syntax.specs.Programs.{is_item, is_ordered};
 ghost use Rattle.gas_text.specs.Gas.{items_text, gas_text};
 ghost use Rattle.gas_text.specs.Text.{RefusedInOrder, ReadsAs, Refused, newlines};
 
-use crate::apart::cut;
+use crate::apart::sides_of;
 use crate::fault::AsmFault;
 use crate::reader::Reader;
 use std::alloc::Global;
@@ -17,13 +17,13 @@ fn read_in_order(alloc: Global, text: &[u8]) -> Result<Vec<Item>, AsmFault>
     ensures ok { IfOk result (λ items. (is_ordered items.items ≡ true) × (gas_text items.items ≡ text.now)) }
     ensures err { IfErr result (λ fault. RefusedInOrder text.now fault) }
 {
-    let mut rest = match cut(text, b'\n') {
+    let mut rest = match sides_of(text, b'\n') {
         Some((first, rest)) if first == b".text".as_slice() => rest,
         _ => return Err(AsmFault::Line(1)),
     };
     let mut reader = Reader::new(alloc);
     let mut line_number = 2u64;
-    while let Some((line, behind)) = cut(rest, b'\n') {
+    while let Some((line, behind)) = sides_of(rest, b'\n') {
         if !reader.take(line)? {
             return Err(AsmFault::Line(line_number));
         }

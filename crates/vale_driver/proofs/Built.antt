@@ -33,7 +33,7 @@ use Rattle.code_lower.specs.Keeps.{AreExports}
 use Rattle.code_lower.proofs.Program.{is_program}
 use Rattle.gas_text.specs.Gas.{gas_text}
 use Rattle.gas_text.specs.Text.{ReadsAs}
-use Rattle.gas_text.proofs.Built.{size, in_range_of_size}
+use Rattle.asm_lines.proofs.Assembled.{size, around_zero}
 use Rattle.gas_text.proofs.Once.{one_list}
 use Rattle.straight_line.specs.declared.form.StraightLine.{StraightLine}
 use Rattle.straight_line.specs.Form.{has}
@@ -94,10 +94,10 @@ module _ (rs : List GeneralReg) where
   -- each instruction is one of the machine's
   formed : (i : Ins) → has rs Rsp ≡ false → IsInstruction rs i → is_ok (form_of i) ≡ true
   formed (Mov d (R s)) k h = rw (told_apart s Rsp h.1 k, told_apart d Rsp h.0 k) refl
-  formed (Mov d (Imm z)) k h = rw (in_range_of_size (2 ^ 63) z (constant (2 ^ 63) z (omega arith) h.1.0 h.1.1), told_apart d Rsp h.0 k) refl
+  formed (Mov d (Imm z)) k h = rw (around_zero (2 ^ 63) z (constant (2 ^ 63) z (omega arith) h.1.0 h.1.1), told_apart d Rsp h.0 k) refl
   formed (Mov d (M m)) k h = absurd h.1
   formed (Alu Add d (R s)) k h = rw (told_apart s Rsp h.1 k, told_apart d Rsp h.0 k) refl
-  formed (Alu Add d (Imm z)) k h = rw (in_range_of_size (2 ^ 31) z (constant (2 ^ 31) z (omega arith) h.1.0 h.1.1), told_apart d Rsp h.0 k) refl
+  formed (Alu Add d (Imm z)) k h = rw (around_zero (2 ^ 31) z (constant (2 ^ 31) z (omega arith) h.1.0 h.1.1), told_apart d Rsp h.0 k) refl
   formed (Alu Add d (M m)) k h = absurd h.1
   formed _ k h = absurd h
 

@@ -1,7 +1,7 @@
 use Rattle.std.proofs.Common.{◌≡◌, ℕ, Bool, true, List, [], ◌∷◌, length, Option, None, Some, refl, sym, ap, ◌∙◌, arith, subst, if◌then◌else◌}
 use Rattle.std.specs.Prelude.{◌==◌, codes, is_none, option_map}
 use Rattle.std.specs.Str.{bytes_eq}
-use Rattle.gas_text.specs.Readers.{sofar}
+use Rattle.gas_text.specs.inner.Readers.{sofar}
 use Rattle.std.proofs.lemmas.Bool.{false≢true, eqb-true}
 use Rattle.gas_text.proofs.Counts.{bytes_from}
 use Rattle.gas_text.proofs.Going.{Going, going_start, going_next, going_bad, going_done, going_early, no_start_none, no_start_other, shorter, number_fits}
@@ -26,20 +26,20 @@ loop-line-init c =
 
 pub returns-then-not-branch-clause-err : goal.returns-then-not-branch-clause-err
 returns-then-not-branch-clause-err c =
-    going_bad c.args.text.now c.loop-line.rest.now (sofar c.loop-line.reader) c.loop-line.line_number c.loop-line.invariant.going c.in-Some-cut.line.now c.in-Some-cut.behind.now (sym c.in-Some-cut.ensures)
+    going_bad c.args.text.now c.loop-line.rest.now (sofar c.loop-line.reader) c.loop-line.line_number c.loop-line.invariant.going c.in-Some-sides_of.line.now c.in-Some-sides_of.behind.now (sym c.in-Some-sides_of.ensures)
     (c.in_ok-take.ensures.next ∙ ap (λ (t : Bool). if t then Some (sofar c.take.new.self) else None) c.if-not-branch.true)
 
 pub overflow_add-line_number : goal.overflow_add-line_number
 overflow_add-line_number c = let n = number_fits c.args.text.now c.loop-line.rest.now _ _ c.loop-line.invariant.going in omega (arith, n)
 
 pub loop-line-smaller : goal.loop-line-smaller
-loop-line-smaller c = shorter c.loop-line.rest.now c.in-Some-cut.line.now c.in-Some-cut.behind.now (sym c.in-Some-cut.ensures)
+loop-line-smaller c = shorter c.loop-line.rest.now c.in-Some-sides_of.line.now c.in-Some-sides_of.behind.now (sym c.in-Some-sides_of.ensures)
 
 pub loop-line-preserved : goal.loop-line-preserved
 loop-line-preserved c =
     record {
       going =
-          going_next c.args.text.now c.loop-line.rest.now (sofar c.loop-line.reader) c.loop-line.line_number c.loop-line.invariant.going c.in-Some-cut.line.now c.in-Some-cut.behind.now (sym c.in-Some-cut.ensures) (sofar c.take.new.self)
+          going_next c.args.text.now c.loop-line.rest.now (sofar c.loop-line.reader) c.loop-line.line_number c.loop-line.invariant.going c.in-Some-sides_of.line.now c.in-Some-sides_of.behind.now (sym c.in-Some-sides_of.ensures) (sofar c.take.new.self)
           (c.in_ok-take.ensures.next ∙ ap (λ (t : Bool). if t then Some (sofar c.take.new.self) else None) c.if-not-branch.false);
       kept = c.in_ok-take.ensures.kept c.if-not-branch.false;
     }
@@ -59,16 +59,16 @@ shown f (Some a) = refl
 pub returns-then-is_between-clause-ok : goal.returns-then-is_between-clause-ok
 returns-then-is_between-clause-ok c =
     let done =
-    going_done c.args.text.now c.loop-line.rest.now (sofar c.loop-line.reader) c.loop-line.line_number c.loop-line.invariant.going (sym c.in_default-cut.ensures)
+    going_done c.args.text.now c.loop-line.rest.now (sofar c.loop-line.reader) c.loop-line.line_number c.loop-line.invariant.going (sym c.in_default-sides_of.ensures)
     (is_nil c.loop-line.rest.now c.if-is_empty.ensures) (is_nothing _ (c.if-is_between.ensures ∙ shown _ c.loop-line.reader.awaited)) in
     rw c.into_items.ensures done
 
 pub returns-else-is_empty-clause-err : goal.returns-else-is_empty-clause-err
 returns-else-is_empty-clause-err c = elim c.else-is_empty.branch [
   | else-is_empty-via-then-is_empty+else-is_between w ↦
-      going_early c.args.text.now c.loop-line.rest.now (sofar c.loop-line.reader) c.loop-line.line_number c.loop-line.invariant.going (sym c.in_default-cut.ensures)
+      going_early c.args.text.now c.loop-line.rest.now (sofar c.loop-line.reader) c.loop-line.line_number c.loop-line.invariant.going (sym c.in_default-sides_of.ensures)
       (λ p. false≢true (w.if-is_between.ensures ∙ shown _ c.loop-line.reader.awaited ∙ ap is_none p.1))
   | else-is_empty-via-else-is_empty w ↦
-      going_early c.args.text.now c.loop-line.rest.now (sofar c.loop-line.reader) c.loop-line.line_number c.loop-line.invariant.going (sym c.in_default-cut.ensures)
+      going_early c.args.text.now c.loop-line.rest.now (sofar c.loop-line.reader) c.loop-line.line_number c.loop-line.invariant.going (sym c.in_default-sides_of.ensures)
       (λ p. false≢true (w.if-is_empty.ensures ∙ ap (λ xs. length xs == 0) p.0))
 ]

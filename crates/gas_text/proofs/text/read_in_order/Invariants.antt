@@ -1,5 +1,5 @@
 use Rattle.std.proofs.Common.{length}
-use Rattle.gas_text.specs.Readers.{sofar, Kept}
+use Rattle.gas_text.specs.inner.Readers.{sofar, Kept}
 use Rattle.gas_text.proofs.Going.{Going}
 use Rattle.gas_text.proofs.text.read_in_order.Given as goal
 

@@ -1,6 +1,6 @@
 use Rattle.std.proofs.Common.{sym, ap, ◌∙◌, arith, [], ◌∷◌, ◌++◌, length, length-append}
 use Rattle.x64_syntax.specs.inner.LabelCount.{label_count}
-use Rattle.gas_text.specs.Reading.{entry_names}
+use Rattle.gas_text.specs.inner.Reading.{entry_names}
 use Rattle.gas_text.proofs.Counts.{count_last, count_one, read_coded, names_code}
 use Rattle.gas_text.proofs.reader.Reader.take_code.Goals as goal
 

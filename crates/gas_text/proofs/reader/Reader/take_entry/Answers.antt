@@ -1,7 +1,7 @@
 use Rattle.std.proofs.Common.{sym, ap, ◌∙◌, arith, [], ◌∷◌, ◌++◌, length, length-append}
 use Rattle.x64_syntax.specs.declared.items.Item.TheVariants as item
 use Rattle.x64_syntax.specs.inner.LabelCount.{label_count}
-use Rattle.gas_text.specs.Reading.{entry_names}
+use Rattle.gas_text.specs.inner.Reading.{entry_names}
 use Rattle.gas_text.proofs.Counts.{count_last, names_entry}
 use Rattle.gas_text.proofs.reader.Reader.take_entry.Goals as goal
 

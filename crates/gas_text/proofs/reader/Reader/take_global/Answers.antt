@@ -3,7 +3,7 @@ use Rattle.std.specs.Prelude.{not}
 use Rattle.std.specs.List.{list_any}
 use Rattle.std.specs.Str.{bytes_eq}
 use Rattle.x64_syntax.specs.Programs.{has_entry}
-use Rattle.gas_text.specs.Reading.{entry_names}
+use Rattle.gas_text.specs.inner.Reading.{entry_names}
 use Rattle.gas_text.proofs.Counts.{has_any, any_name}
 use Rattle.gas_text.proofs.reader.Reader.take_global.Goals as goal
 use Rattle.gas_text.proofs.reader.Reader.take_global.Goals.{then-not-is_export_name-via-then-not-is_export_name, then-not-is_export_name-via-else-not-is_export_name+in_ok-insert+then-not-branch}

@@ -6,9 +6,9 @@ use Rattle.x64_syntax.specs.declared.items.Item.TheVariants as item
 use Rattle.x64_syntax.specs.Words.{is_export_text}
 use Rattle.x64_syntax.specs.Programs.{is_item, has_entry}
 use Rattle.x64_syntax.specs.inner.LabelCount.{label_count}
-use Rattle.asm_lines.specs.Operands.{at_most}
+use Rattle.asm_lines.specs.inner.Assembled.{at_most}
 use Rattle.gas_text.specs.Gas.{line as line_text}
-use Rattle.gas_text.specs.Apart.{found_item}
+use Rattle.gas_text.specs.inner.Apart.{found_item}
 
 -- What was read so far: items, and the name of an entry whose own line comes next.
 pub record Sofar : Type 0 where
@@ -16,9 +16,9 @@ pub record Sofar : Type 0 where
   pub awaited : Option (List ℕ)
 
 -- the item, where the line is exactly its own
-abbrev pub checked : Option Item → List ℕ → Option Item
-checked None line = None
-checked (Some i) line = if is_item i && bytes_eq (line_text i) line then Some i else None
+abbrev pub item_of_line : Option Item → List ℕ → Option Item
+item_of_line None line = None
+item_of_line (Some i) line = if is_item i && bytes_eq (line_text i) line then Some i else None
 
 -- The item that a line can be behind so many labels. A line that begins with `L` can only be that of the next label.
 abbrev pub candidate : ℕ → List ℕ → Option Item
@@ -26,19 +26,19 @@ candidate count [] = None
 candidate count (b ∷ bs) = if b == 76 then option_map item.Label (at_most (2 ^ 32 - 1) (pos count)) else found_item (b ∷ bs)
 
 abbrev pub item_read : ℕ → List ℕ → Option Item
-item_read count line = checked (candidate count line) line
+item_read count line = item_of_line (candidate count line) line
 
 -- the name behind `.globl`
 abbrev pub global_name : List ℕ → Option (List ℕ)
 global_name line = if bytes_eq (take 7 line) (codes ".globl ") then Some (drop 7 line) else None
 
 -- an item more
-abbrev pub grown : List Item → Item → Sofar
-grown is i = record { items = is ++ i ∷ []; awaited = None }
+abbrev pub with_item : List Item → Item → Sofar
+with_item is i = record { items = is ++ i ∷ []; awaited = None }
 
 -- the line of an entry's name
 abbrev pub entry_read : List Item → List ℕ → List ℕ → Option Sofar
-entry_read is name line = if bytes_eq line (name ++ codes ":") then Some (grown is (item.Entry name)) else None
+entry_read is name line = if bytes_eq line (name ++ codes ":") then Some (with_item is (item.Entry name)) else None
 
 abbrev pub global_read : List Item → List ℕ → Option Sofar
 global_read is name = if is_export_text name && not (has_entry name is) then Some (record { items = is; awaited = Some name }) else None
@@ -46,7 +46,7 @@ global_read is name = if is_export_text name && not (has_entry name is) then Som
 -- instructions, labels and jumps come behind an entry
 abbrev pub code_read : List Item → List ℕ → Option Sofar
 code_read [] line = None
-code_read (i ∷ is) line = option_map (grown (i ∷ is)) (item_read (label_count (i ∷ is)) line)
+code_read (i ∷ is) line = option_map (with_item (i ∷ is)) (item_read (label_count (i ∷ is)) line)
 
 abbrev pub read_by : Option (List ℕ) → Option (List ℕ) → List Item → List ℕ → Option Sofar
 read_by (Some name) global is line = entry_read is name line

@@ -15,13 +15,13 @@ use Rattle.asm_lines.specs.declared.forms.Part.{Part}
 use Rattle.asm_lines.specs.declared.forms.Part.TheVariants.{General, Wide, Number, Memory}
 use Rattle.asm_lines.specs.declared.forms.Parts.{Parts}
 use Rattle.asm_lines.specs.declared.forms.Parts.TheVariants.{One, Two, Three}
-use Rattle.asm_lines.specs.Operands.{instruction, at_most}
-use Rattle.asm_lines.specs.Lines.{cond_of}
+use Rattle.asm_lines.specs.inner.Assembled.{instruction, at_most}
+use Rattle.asm_lines.specs.inner.Conditions.{cond_of}
 
 -- what is before the first such byte, and what is behind it
-abbrev pub cut : ℕ → List ℕ → Option (List ℕ × List ℕ)
-cut b [] = None
-cut b (x ∷ xs) = if x == b then Some ([], xs) else option_map (λ p. (x ∷ p.0, p.1)) (cut b xs)
+abbrev pub sides_of : ℕ → List ℕ → Option (List ℕ × List ℕ)
+sides_of b [] = None
+sides_of b (x ∷ xs) = if x == b then Some ([], xs) else option_map (λ p. (x ∷ p.0, p.1)) (sides_of b xs)
 
 -- a text as far as a comma
 abbrev pub front_of : Option (List ℕ × List ℕ) → List ℕ → List ℕ
@@ -29,7 +29,7 @@ front_of None text = text
 front_of (Some p) text = p.0
 
 abbrev pub before_comma : List ℕ → List ℕ
-before_comma text = front_of (cut 44 text) text
+before_comma text = front_of (sides_of 44 text) text
 
 abbrev pub number : List ℕ → Option ℤ
 number [] = None
@@ -45,29 +45,29 @@ abbrev pub displacement : ℤ → Option ℤ
 displacement z = if int_le (neg_ℤ (pos (2 ^ 31))) z && int_le z (pos (2 ^ 31 - 1)) then Some z else None
 
 -- `%rcx,8`
-abbrev pub scaled : List ℕ → Option (Reg × ℕ)
-scaled text =
-    option_and_then (λ p. option_and_then (λ r. option_map (λ n. (r, n)) (option_and_then (at_most 255) (number p.1))) (register p.0)) (cut 44 text)
+abbrev pub index_of : List ℕ → Option (Reg × ℕ)
+index_of text =
+    option_and_then (λ p. option_and_then (λ r. option_map (λ n. (r, n)) (option_and_then (at_most 255) (number p.1))) (register p.0)) (sides_of 44 text)
 
 -- what is between the parentheses, with a displacement
-abbrev pub addressed : ℤ → List ℕ → Option (List ℕ × List ℕ) → Option Mem
-addressed z inside None = option_map (λ r. record { base = r; index = None; disp = z }) (register inside)
-addressed z inside (Some p) = option_and_then (λ r. option_map (λ i. record { base = r; index = Some i; disp = z }) (scaled p.1)) (register p.0)
+abbrev pub address_of : ℤ → List ℕ → Option (List ℕ × List ℕ) → Option Mem
+address_of z inside None = option_map (λ r. record { base = r; index = None; disp = z }) (register inside)
+address_of z inside (Some p) = option_and_then (λ r. option_map (λ i. record { base = r; index = Some i; disp = z }) (index_of p.1)) (register p.0)
 
 -- `0(%rsi)`, `-8(%rsi,%rcx,8)`
 abbrev pub memory : List ℕ → Option Mem
 memory text =
-    option_and_then (λ p. option_and_then (λ q. option_and_then (λ z. addressed z q.0 (cut 44 q.0)) (option_and_then displacement (number p.0))) (cut 41 p.1)) (cut 40 text)
+    option_and_then (λ p. option_and_then (λ q. option_and_then (λ z. address_of z q.0 (sides_of 44 q.0)) (option_and_then displacement (number p.0))) (sides_of 41 p.1)) (sides_of 40 text)
 
-abbrev pub named_part : Option Reg → List ℕ → Option Part
-named_part (Some r) name = Some (General r)
-named_part None name = option_map Wide (xmm_of name)
+abbrev pub register_part : Option Reg → List ℕ → Option Part
+register_part (Some r) name = Some (General r)
+register_part None name = option_map Wide (xmm_of name)
 
 -- the operand that a text begins with
 abbrev pub part_of : List ℕ → Option Part
 part_of [] = None
 part_of (b ∷ bs) =
-    if b == 37 then named_part (reg_of (before_comma bs)) (before_comma bs)
+    if b == 37 then register_part (reg_of (before_comma bs)) (before_comma bs)
     else if b == 36 then option_map Number (number (before_comma bs))
     else option_map Memory (memory (b ∷ bs))
 
@@ -78,23 +78,23 @@ more_parts a b (Some p) = option_map (λ c. Three c b a) (part_of p.1)
 
 abbrev pub parts_behind : Part → Option (List ℕ × List ℕ) → Option Parts
 parts_behind a None = Some (One a)
-parts_behind a (Some p) = option_and_then (λ b. more_parts a b (cut 32 p.1)) (part_of p.1)
+parts_behind a (Some p) = option_and_then (λ b. more_parts a b (sides_of 32 p.1)) (part_of p.1)
 
 -- operands with blanks between them, the last of a source first
 abbrev pub parts_of : List ℕ → Option Parts
-parts_of text = option_and_then (λ a. parts_behind a (cut 32 text)) (part_of text)
+parts_of text = option_and_then (λ a. parts_behind a (sides_of 32 text)) (part_of text)
 
 -- three instructions are called `movq`: they differ in what is written
-abbrev pub narrowed : Operation → Parts → Operation
-narrowed op.Mov (Two (Memory m) s) = op.Store
-narrowed op.Mov (Two (Wide d) s) = op.XMovq
-narrowed o ps = o
+abbrev pub operation_by_operands : Operation → Parts → Operation
+operation_by_operands op.Mov (Two (Memory m) s) = op.Store
+operation_by_operands op.Mov (Two (Wide d) s) = op.XMovq
+operation_by_operands o ps = o
 
-abbrev pub called : List ℕ → Option Operation
-called mnemonic = if bytes_eq mnemonic (codes "movabsq") then Some op.Mov else gas_operation_of mnemonic
+abbrev pub mnemonic_operation : List ℕ → Option Operation
+mnemonic_operation mnemonic = if bytes_eq mnemonic (codes "movabsq") then Some op.Mov else gas_operation_of mnemonic
 
 abbrev pub ins_of : List ℕ → List ℕ → Option Ins
-ins_of mnemonic text = option_and_then (λ ps. option_and_then (λ o. instruction (narrowed o ps) ps) (called mnemonic)) (parts_of text)
+ins_of mnemonic text = option_and_then (λ ps. option_and_then (λ o. instruction (operation_by_operands o ps) ps) (mnemonic_operation mnemonic)) (parts_of text)
 
 -- `L12`
 abbrev pub label_of : List ℕ → Option ℕ
@@ -102,21 +102,21 @@ label_of [] = None
 label_of (b ∷ bs) = if b == 76 then option_and_then (λ n. at_most (2 ^ 32 - 1) (pos n)) (number_of bs) else None
 
 -- a conditional jump, or an instruction
-abbrev pub called_so : List ℕ → List ℕ → Option Item
-called_so [] text = None
-called_so (b ∷ bs) text =
+abbrev pub item_by_mnemonic : List ℕ → List ℕ → Option Item
+item_by_mnemonic [] text = None
+item_by_mnemonic (b ∷ bs) text =
     if b == 106 then option_and_then (λ c. option_map (item.Jcc c) (label_of text)) (cond_of bs)
     else option_map item.Ins (ins_of (b ∷ bs) text)
 
 -- the item of a mnemonic and operands
 abbrev pub item_of : List ℕ → List ℕ → Option Item
-item_of mnemonic text = if bytes_eq mnemonic (codes "jmp") then option_map item.Jmp (label_of text) else called_so mnemonic text
+item_of mnemonic text = if bytes_eq mnemonic (codes "jmp") then option_map item.Jmp (label_of text) else item_by_mnemonic mnemonic text
 
-abbrev pub found : Option (List ℕ × List ℕ) → Option Item
-found None = Some item.Ret
-found (Some p) = item_of p.0 p.1
+abbrev pub item_of_sides : Option (List ℕ × List ℕ) → Option Item
+item_of_sides None = Some item.Ret
+item_of_sides (Some p) = item_of p.0 p.1
 
 -- the item that a line can be, by what is behind its tab
 abbrev pub found_item : List ℕ → Option Item
 found_item [] = None
-found_item (b ∷ bs) = if b == 9 then found (cut 32 bs) else None
+found_item (b ∷ bs) = if b == 9 then item_of_sides (sides_of 32 bs) else None

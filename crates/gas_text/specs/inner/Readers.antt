@@ -2,7 +2,7 @@
 use Rattle.std.specs.Prelude.{◌≡◌, ◌≤◌, map, option_map, length}
 use Rattle.x64_syntax.specs.inner.LabelCount.{label_count}
 use Rattle.gas_text.specs.declared.reader.Reader.{Reader}
-use Rattle.gas_text.specs.Reading.{Sofar, names_of}
+use Rattle.gas_text.specs.inner.Reading.{Sofar, names_of}
 
 abbrev pub sofar : Reader → Sofar
 sofar r = record { items = r.items.items; awaited = option_map (λ name. name.now) r.awaited }

@@ -1,6 +1,6 @@
 use Rattle.std.proofs.Common.{◌∙◌, sym, ap, arith, drop, take, Some}
 use Rattle.gas_text.proofs.Cuts.{cut_nowhere, cut_first}
-use Rattle.gas_text.proofs.apart.cut.Goals as goal
+use Rattle.gas_text.proofs.apart.sides_of.Goals as goal
 
 pub returns-in_err-place : goal.returns-in_err-place
 returns-in_err-place c = rw c.from_residual.ensures (sym (cut_nowhere c.args.at c.args.text.now (λ k lt e. c.in_err-place.ensures k (omega arith) lt e)))
