@@ -1,14 +1,12 @@
 -- What the equations leave of instructions that take nothing in beside their registers and flags.
-use Rattle.std.proofs.Common.{◌≡◌, ℕ, ◌+◌, ◌-◌, ◌*◌, ◌/◌, ◌%◌, ◌<◌, ◌^◌, Bool, true, false, not, ◌&&◌, ◌||◌, cond, [], ◌∷◌, Option, Some, None, refl, ap, ◌∙◌, arith, mod-eq_of_lt}
+use Rattle.std.proofs.Common.{◌≡◌, ℕ, ◌+◌, ◌-◌, ◌*◌, ◌/◌, ◌%◌, ◌<◌, ◌^◌, Bool, true, false, not, cond, [], ◌∷◌, refl, ap, ◌∙◌, arith, mod-eq_of_lt}
 use Rattle.std.specs.Prelude.{◌==◌, bit_and, if◌then◌else◌}
-use Rattle.std.proofs.Math.Nat.{div-le_self, mul_comm}
-use Rattle.std.proofs.lemmas.Nat.{mod_below, mul-mod_second}
+use Rattle.std.proofs.Math.Nat.{div-le_self}
+use Rattle.std.proofs.lemmas.Nat.{mod_below}
 use Rattle.x64_syntax.specs.declared.places.Reg.{Reg as GeneralReg}
-use Rattle.x64_syntax.specs.declared.places.FlagName.{FlagName}
-use Rattle.x64_syntax.specs.declared.places.FlagName.TheVariants.{Cf, Zf, Of}
+use Rattle.x64_syntax.specs.declared.places.FlagName.TheVariants.{Cf, Of}
 use Rattle.x64_syntax.specs.declared.places.Place.TheVariants.{Reg}
 use Rattle.x64_syntax.specs.declared.conditions.Cond.{Cond}
-use Rattle.x64_syntax.specs.declared.conditions.Cond.TheVariants as condition
 use Rattle.x64_syntax.specs.declared.instructions.OneOp.{OneOp}
 use Rattle.x64_syntax.specs.declared.instructions.OneOp.TheVariants as one
 use Rattle.x64_syntax.specs.declared.instructions.ShiftOp.{ShiftOp}
@@ -20,17 +18,17 @@ use Rattle.term_core.specs.declared.operator.UnOp.TheVariants as un
 use Rattle.term_core.specs.declared.operator.BinOp.TheVariants as bin
 use Rattle.term_core.specs.declared.operator.CountedOp.{CountedOp}
 use Rattle.term_core.specs.declared.operator.CountedOp.TheVariants as counted
-use Rattle.term_core.specs.Value.{T, Val, Truth, Word, word, word_of, cast, truth}
+use Rattle.term_core.specs.Value.{T, Val, Word, word, cast, truth}
 use Rattle.x64_meaning.specs.declared.machine.Flag.{Flag as FlagValue}
 use Rattle.x64_meaning.specs.declared.machine.Flag.TheVariants.{Undefined}
-use Rattle.x64_meaning.specs.State.{State, reg, flag, read}
+use Rattle.x64_meaning.specs.State.{State, reg, read}
 use Rattle.x64_meaning.specs.Exp.{Exp, Before, After, W64, Un, Bin, Ite, exp_value}
 use Rattle.x64_meaning.specs.Exp as exp
-use Rattle.x64_meaning.specs.Table.{gets, sets, sum, difference, one_unless, one_if, one_equations, shift_equations, bit_of, undefined_flag, is_set, holds, scaled_of, address_of, apply}
+use Rattle.x64_meaning.specs.Table.{gets, sets, difference, one_unless, one_if, one_equations, shift_equations, bit_of, undefined_flag, holds, address_of, apply}
 use Rattle.x64_meaning.specs.Run.{address, cond_holds}
 use Rattle.x64_meaning.specs.inner.Steps.{flag_if, set_reg, one_effect, bit_at, rotation_state, shift_effect, Fits}
-use Rattle.x64_meaning.proofs.Numbers.{plain_difference, addressed, word_of-lt}
-use Rattle.x64_meaning.proofs.Parts.{IsWord, IsTruth, IsFlag, constant, sum_word, difference_word, and_word, not_word, product_word, equal, flag_where, flag_unless, set_is}
+use Rattle.x64_meaning.proofs.Numbers.{plain_difference}
+use Rattle.x64_meaning.proofs.Parts.{IsWord, IsFlag, constant, difference_word, and_word, not_word, equal, flag_where, flag_unless}
 use Rattle.x64_meaning.proofs.Computes.{one_reg, finishes}
 use Rattle.x64_meaning.proofs.Plain.{condition_is, address_is}
 

@@ -1,5 +1,5 @@
 -- What a step would show is told without the step.
-use Rattle.std.proofs.Common.{◌≡◌, ℕ, Bool, true, false, List, [], ◌∷◌, length, map, Option, Some, None, refl, sym, ap, ◌∙◌, subst}
+use Rattle.std.proofs.Common.{◌≡◌, ℕ, Bool, true, false, List, [], ◌∷◌, length, Option, Some, None, refl, sym, ap, ◌∙◌}
 use Rattle.std.specs.Prelude.{Result, Ok, Err, is_none, option_map, if◌then◌else◌}
 use Rattle.std.specs.List.{find}
 use Rattle.x64_blocks.specs.declared.blocks.Outside.{Outside as NotHeld}

@@ -16,7 +16,7 @@ use Rattle.x64_syntax.specs.declared.instructions.OneOp.TheVariants as one
 use Rattle.x64_syntax.specs.declared.instructions.ShiftOp.{ShiftOp}
 use Rattle.x64_syntax.specs.declared.instructions.ShiftOp.TheVariants as shift
 use Rattle.x64_syntax.specs.declared.instructions.Ins.{Ins}
-use Rattle.x64_syntax.specs.declared.instructions.Ins.TheVariants.{Mov, Lea, Cmov, Pop, Alu, One as OneIns, Shift, Imul, Mul, Mulx, Carry, XMov, XLoad, XStore, XBin, XShuf, XShift, XIns, XExt, XMovq}
+use Rattle.x64_syntax.specs.declared.instructions.Ins.TheVariants.{Mov, Lea, Cmov, Pop, Alu, One as OneIns, Shift, Imul, Mul, Mulx, Carry}
 use Rattle.x64_syntax.specs.Instructions.{carry_flag}
 use Rattle.x64_blocks.specs.Memory.{Range}
 use Rattle.x64_syntax.specs.Places.{reg_number, flag_number}

@@ -1,4 +1,4 @@
-use Rattle.std.proofs.Common.{sym, ◌∙◌}
+use Rattle.std.proofs.Common.{sym}
 use Rattle.x64_meaning.proofs.Foreseeing.{puts_where_loaded, faults_where_not}
 use Rattle.x64_meaning.proofs.step.would_put.Goals as goal
 
