@@ -1,4 +1,7 @@
 //! The sources that are built so far: procedures without branches.
+//!
+//! `straight_line` is exact: the registers, instructions, promise and names of the form (`specs/Form.antt`), or that
+//! the trees aren't of it; and what holds of each such procedure (`IsStraight`).
 #![tactic(auto)]
 
 mod clauses;

@@ -1,7 +1,12 @@
 //! The outside of the program: where files come from, and where text goes.
 //!
-//! A store and a sink may tell what they hold. Each keeps a count of its faults, so that a caller's contract can
-//! tie a fault to the object in which it happened.
+//! A store and a sink may tell what they hold. Each keeps a count of its faults, so that a caller's contract can tie a
+//! fault to the object in which it happened.
+//!
+//! The clauses of [`Store::fetch`] and [`Sink::put`] are kept by six implementations: files and streams of the system,
+//! those in memory, and those in memory that never fail. [`MemStore`] fails exactly where planned or where a name isn't
+//! held, and [`MemSink`] where planned or where memory runs out; each counts exactly one call, and where it fails one
+//! fault (`specs/Plan.antt`).
 #![tactic(auto)]
 
 mod failures;

@@ -1,5 +1,11 @@
 //! The source language: tokens and trees, the definitions of which tokens a text has and which trees tokens spell, and
 //! the text of an expression.
+//!
+//! The definitions are `specs/Tokens.antt`, `Expressions.antt`, `Statements.antt` and `Declarations.antt`.
+//! `table_of_marks`: the code's table of marks is the definitions'. `longest_mark`: the first mark of the table that
+//! begins a text is the longest that does. `limits_of_numbers`: the limits of numbers are the definitions'.
+//! `spelled_once`: no list of tokens spells two expressions. `read_as_spelled`: looking ahead finds exactly what is
+//! spelled. `print_expr`: the text's tokens spell the tree, for each tree that some text spells (`printed_as_spelled`).
 #![tactic(auto)]
 
 mod declaration;

@@ -1,4 +1,5 @@
-//! Operations on words of 64 bits, each by its formula over whole numbers.
+//! Operations on words of 64 bits: sums with carry, differences with borrow, products, rotations and bytes. Each call
+//! is its formula over whole numbers (`specs/Words.antt`).
 #![tactic(auto)]
 
 ghost use Rattle.std.specs.Prelude.{◌≡◌, ◌<◌};

@@ -1,4 +1,8 @@
-//! Blocks of memory that lie apart.
+//! Blocks of memory that lie apart, and loads and stores of 8 and 16 bytes.
+//!
+//! `load8`, `load16`, `store8`, `store16` and `add` are exact (`specs/Memory.antt`): a refusal comes exactly where no
+//! single block holds all bytes, or where a block would end above 2^64 or overlap, and changes nothing. `are_memory`:
+//! blocks lie apart, end at or below 2^64 and hold bytes, whatever was done with them.
 #![tactic(auto)]
 
 mod block;

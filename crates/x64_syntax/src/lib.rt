@@ -1,5 +1,13 @@
 //! The machine's registers, operands, instructions and items, and the names that a source may not give to its own
 //! things. Everything above speaks of code in these types.
+//!
+//! Each table is text in `specs/` (`Operations`, `Places`, `Tables`), and the code's is proved equal to it. Looking a
+//! name up is exact: `reg_named`, `xmm_named`, `keyword_named`, `type_word_named`, `built_in_named`, `operation_named`,
+//! `gas_named`; so are `is_name`, `is_reserved`, `is_export_name`, `PlaceSet::contains` and `with`. `ins_ok`,
+//! `reads_of` and `writes_of` are exactly the columns of the table of forms, for every form
+//! (`specs/Instructions.antt`). `program_ok` is exactly its five points (`specs/Programs.antt`), `code_ok` its four
+//! (`specs/Code.antt`). `stray_jump` gives the first jump that leaves its piece. `read_number` reads exactly the
+//! decimal numbers below 2^64 that are printed.
 #![tactic(auto)]
 
 mod built_in;

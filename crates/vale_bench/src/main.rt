@@ -1,0 +1,90 @@
+//! Benchmarks of library calls: with the words CALL TIMES FILE the call is made on the file's bytes so many times, and how
+//! many parts the last one gave is printed. `scripts/bench.sh` takes the time.
+#![tactic(auto)]
+
+use anyhow::{Result, bail};
+use gas_text::{print, read};
+use std::alloc::Global;
+use std::{env, fs};
+use vale_lexer::tokens;
+use vale_parser::read_decls;
+use vale_syntax::Token;
+use x64_syntax::program_ok;
+
+fn scanned(alloc: Global, text: &[u8]) -> Result<Vec<Token>> {
+    if text.len() >= 1 << 32 {
+        bail!("the text is too long");
+    }
+    match tokens(alloc, 0, text) {
+        Ok(read) => Ok(read),
+        Err(_) => bail!("the text has no tokens"),
+    }
+}
+
+// How many tokens the text has.
+fn scan(alloc: Global, text: &[u8], times: u32) -> Result<usize> {
+    let mut parts = 0;
+    for _time in 0..times {
+        parts = scanned(alloc, text)?.len();
+    }
+    Ok(parts)
+}
+
+// How many declarations the text has; its tokens are read once.
+fn parse(alloc: Global, text: &[u8], times: u32) -> Result<usize> {
+    let read = scanned(alloc, text)?;
+    let mut parts = 0;
+    for _time in 0..times {
+        match read_decls(alloc, &read) {
+            Ok(decls) => parts = decls.len(),
+            Err(_) => bail!("the text has no declarations"),
+        }
+    }
+    Ok(parts)
+}
+
+// How many items the assembler text has.
+fn read_text(alloc: Global, text: &[u8], times: u32) -> Result<usize> {
+    let mut parts = 0;
+    for _time in 0..times {
+        match read(alloc, text) {
+            Ok(items) => parts = items.len(),
+            Err(_) => bail!("the text is no program"),
+        }
+    }
+    Ok(parts)
+}
+
+// How many bytes the program of the text is printed in; it is read once.
+fn print_text(alloc: Global, text: &[u8], times: u32) -> Result<usize> {
+    let Ok(items) = read(alloc, text) else {
+        bail!("the text is no program");
+    };
+    if !program_ok(&items) {
+        bail!("the items are no program");
+    }
+    let mut parts = 0;
+    for _time in 0..times {
+        parts = print(alloc, &items)?.len();
+    }
+    Ok(parts)
+}
+
+fn main(rt: HostRuntime) -> Result<()> {
+    let alloc = rt.alloc();
+    let mut words = env::args(&rt)?.skip(1);
+    let (Some(call), Some(times), Some(file)) = (words.next(), words.next(), words.next()) else {
+        bail!("the words are CALL TIMES FILE");
+    };
+    let times = times.parse::<u32>()?;
+    let text = fs::read(&rt, file.as_str())?;
+    let parts = match call.as_str() {
+        "scan" => scan(alloc, &text, times)?,
+        "parse" => parse(alloc, &text, times)?,
+        "read" => read_text(alloc, &text, times)?,
+        "print" => print_text(alloc, &text, times)?,
+        _ => bail!("the calls are scan, parse, read and print"),
+    };
+    println!(rt; "{call}: {parts} parts, {times} times")?;
+    Ok(())
+}

@@ -1,0 +1,34 @@
+#!/bin/sh
+# Times library calls on large texts: milliseconds for each call, and how many parts it gave.
+set -eu
+top=$(dirname "$(readlink -f "$0")")/..
+program="$top/crates/vale_bench/out/vale_bench"
+if [ ! -x "$program" ]; then
+    (cd "$top/crates/vale_bench" && rt run -- parse 1 "$top/examples/inc2/a.vale" >&2)
+fi
+folder=$(mktemp -d)
+trap 'rm -rf "$folder"' EXIT
+
+# A thousand procedures, and a program of a hundred thousand instructions.
+i=0
+while [ $i -lt 1000 ]; do
+    sed "s/inc2/inc$i/g" "$top/examples/inc2/a.vale"
+    i=$((i + 1))
+done >"$folder/a.vale"
+{
+    printf '.text\n.globl f\nf:\n'
+    yes '	addq 16(%rdi,%r8,2), %rax' | head -n 100000
+    printf '\tret\n'
+} >"$folder/a.s"
+
+bench() {
+    begun=$(date +%s%N)
+    said=$("$program" "$1" "$2" "$folder/$3")
+    ended=$(date +%s%N)
+    printf '%6d ms  %s\n' $(((ended - begun) / 1000000 / $2)) "$said"
+}
+
+bench scan 10 a.vale
+bench parse 10 a.vale
+bench read 10 a.s
+bench print 10 a.s
