@@ -1,5 +1,5 @@
 -- How a line is taken apart. Only what a line can be is found: whether it is that line is told by the printed line.
-use Rattle.std.specs.Prelude.{ℕ, ◌-◌, ◌^◌, ℤ, pos, neg_ℤ, int_le, ◌&&◌, ◌==◌, List, [], ◌∷◌, codes, Option, Some, None, option_map, option_and_then, if◌then◌else◌}
+use Rattle.std.specs.Prelude.{ℕ, ◌-◌, ◌^◌, ℤ, pos, neg_ℤ, ◌==◌, List, [], ◌∷◌, codes, Option, Some, None, option_map, option_and_then, if◌then◌else◌}
 use Rattle.std.specs.Str.{bytes_eq}
 use Rattle.x64_syntax.specs.declared.places.Reg.{Reg}
 use Rattle.x64_syntax.specs.declared.operands.Mem.{Mem}
@@ -9,6 +9,7 @@ use Rattle.x64_syntax.specs.declared.items.Item.TheVariants as item
 use Rattle.x64_syntax.specs.declared.operations.Operation.{Operation}
 use Rattle.x64_syntax.specs.declared.operations.Operation.TheVariants as op
 use Rattle.x64_syntax.specs.Places.{reg_of, xmm_of}
+use Rattle.x64_syntax.specs.Ranges.{is_i32}
 use Rattle.x64_syntax.specs.inner.Digits.{number_of}
 use Rattle.x64_syntax.specs.inner.Mnemonics.{gas_operation_of}
 use Rattle.asm_lines.specs.declared.forms.Part.{Part}
@@ -31,6 +32,7 @@ front_of (Some p) text = p.0
 abbrev pub before_comma : List ℕ → List ℕ
 before_comma text = front_of (sides_of 44 text) text
 
+-- a number with sign
 abbrev pub number : List ℕ → Option ℤ
 number [] = None
 number (b ∷ bs) = if b == 45 then option_map (λ n. neg_ℤ (pos n)) (number_of bs) else option_map pos (number_of (b ∷ bs))
@@ -42,7 +44,7 @@ register (b ∷ bs) = if b == 37 then reg_of bs else None
 
 -- a number of 32 bits with sign
 abbrev pub displacement : ℤ → Option ℤ
-displacement z = if int_le (neg_ℤ (pos (2 ^ 31))) z && int_le z (pos (2 ^ 31 - 1)) then Some z else None
+displacement z = if is_i32 z then Some z else None
 
 -- `%rcx,8`
 abbrev pub index_of : List ℕ → Option (Reg × ℕ)
