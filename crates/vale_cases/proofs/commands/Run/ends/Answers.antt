@@ -3,4 +3,4 @@ use Rattle.vale_driver.proofs.Askable.{askable}
 use Rattle.vale_cases.proofs.commands.Run.ends.Goals as goal
 
 pub run-status-requires : goal.run-status-requires
-run-status-requires c = askable (λ f. true) (λ f. refl) _
+run-status-requires c = record { askable = askable (λ f. true) (λ f. refl) _ }
