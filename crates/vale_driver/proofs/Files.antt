@@ -129,7 +129,7 @@ refused_decl decls s rest front all r split none h = h.first r (subst (λ l. Fir
 pub parsed_all : (decls : List De) (rest all : List Scanned) → rest ≡ [] → Parsing decls rest all → Parsed all decls
 parsed_all decls rest all e h = subst (Parsed all) (append-nil decls) (h.parsed [] (subst (λ l. Parsed l []) (sym e) refl))
 
--- What is known of the files as they are scan_view is known of the files as they are.
+-- What is known of the files as they are seen is known of the files as they are.
 have_tokens : (scs : List Scanned) (ss : List Source) → map scan_view scs ≡ map scan ss → AllByRecursion HasTokens ss
 have_tokens scs [] e = tt
 have_tokens [] (s ∷ ss) e = absurd cc

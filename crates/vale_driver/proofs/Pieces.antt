@@ -7,10 +7,11 @@ use Rattle.std.proofs.lemmas.Fmt.{decimal_by_steps}
 use Rattle.std.proofs.lemmas.List.{take-append-drop}
 use Rattle.std.proofs.Math.Seq.{take-append_seam, drop-append_seam}
 use Rattle.x64_syntax.specs.Words.{is_digit_byte}
-use Rattle.vale_driver.specs.inner.Fronts.{◌>>=◌, strip, span, number_of, number_at}
+use Rattle.x64_syntax.specs.inner.Digits.{number_of}
+use Rattle.x64_syntax.proofs.Digits.{read_back, number_written}
+use Rattle.vale_driver.specs.inner.Fronts.{◌>>=◌, strip, span, number_at}
 use Rattle.vale_driver.specs.Words.{value_if}
 pub use Rattle.vale_syntax.proofs.Sound.{bind_some}
-use Rattle.vale_driver.proofs.Numbers.{number_of-decimal}
 
 pub given_some : {A : Type 0} (b : Bool) (x y : A) → value_if b x ≡ Some y → (b ≡ true) × (x ≡ y)
 given_some true x y h = (refl, cc)
@@ -88,15 +89,12 @@ number_is bytes rest n h =
     let s = span is_digit_byte bytes in
     let b = bind_some (number_of s.0) _ _ h in
     let m = b.0 in
-    let g = given_some _ _ _ b.1 in
-    let both = and_parts _ _ g.0 in
-    let text : decimal m ≡ s.0 = ap decimal (sym g.1) ∙ (bytes_eq-Decides _ s.0).0 both.1 in
-    let fits : m < 2 ^ 64 = subst (λ k. k < 2 ^ 64) g.1 (ltb-true _ _ both.0) in
+    let written : (decimal m ≡ s.0) × (m < 2 ^ 64) = number_written s.0 m b.1 in
     let pair : Some (m, s.1) ≡ Some (n, rest) = b.2 in
     let first : m ≡ n = ap (λ (o : Option (ℕ × List ℕ)). first_of o) pair in
     let second : s.1 ≡ rest = ap (λ (o : Option (ℕ × List ℕ)). rest_of o) pair in (
-      span_whole is_digit_byte bytes ∙ ap (λ x. x ++ s.1) (sym text) ∙ ap (λ x. decimal m ++ x) second ∙ ap (λ k. decimal k ++ rest) first,
-      subst (λ k. k < 2 ^ 64) first fits,
+      span_whole is_digit_byte bytes ∙ ap (λ x. x ++ s.1) (sym written.0) ∙ ap (λ x. decimal m ++ x) second ∙ ap (λ k. decimal k ++ rest) first,
+      subst (λ k. k < 2 ^ 64) first written.1,
     )
   where
     first_of : Option (ℕ × List ℕ) → ℕ
@@ -111,4 +109,4 @@ pub number_takes : (n : ℕ) (rest : List ℕ) → n < 2 ^ 64 → stops is_digit
 unfolding number_at
 number_takes n rest fits s =
     ap (λ x. number_of x.0 >>= λ m. Some (m, x.1)) (span_front is_digit_byte (decimal n) rest (digits-decimal n fits) s)
-    ∙ ap (λ o. o >>= λ m. Some (m, rest)) (number_of-decimal n fits)
+    ∙ ap (λ o. o >>= λ m. Some (m, rest)) (read_back n fits)

@@ -1,4 +1,4 @@
--- The rule `ring`: for every monomial the coefficients of the goal's sides and of the weight_of sum of the hypotheses'
+-- The rule `ring`: for every monomial the coefficients of the goal's sides and of the weighted sum of the hypotheses'
 -- sides agree modulo 2^64.
 use Rattle.std.specs.Prelude.{ℕ, ◌+◌, ◌-◌, ◌*◌, ◌%◌, Bool, true, false, ◌&&◌, ◌==◌, nat_le, List, [], ◌∷◌, ◌++◌, map, Option, Some, None, slice_get, if◌then◌else◌}
 use Rattle.std.specs.List.{list_all}

@@ -21,7 +21,7 @@ pub record Source : Type 0 where
   pub name : List ℕ
   pub bytes : List ℕ
 
--- names and what the files hold, sources_from from k on
+-- names and what the files hold, numbered from k on
 abbrev pub sources_from : ℕ → List (List ℕ) → List (List ℕ) → List Source
 sources_from k (n ∷ ns) (c ∷ cs) = record { number = k; name = n; bytes = c } ∷ sources_from (k + 1) ns cs
 sources_from k _ _ = []

@@ -65,7 +65,7 @@ pub record Options : Type 0 where
 abbrev pub no_options : Options
 no_options = record { syntax = None; cert = None; entry = None; state = None; steps = None }
 
--- a value, which an option is value_if once
+-- a value, which an option is given once
 abbrev pub once : Option (List ℕ) → List ℕ → Option (List ℕ)
 once (Some old) value = None
 once None value = value_if (is_value value) value

@@ -1,4 +1,4 @@
-// The condition of a procedure: the equations of its instructions, over sources_from versions of places, and what is to follow.
+// The condition of a procedure: the equations of its instructions, over numbered versions of places, and what is to follow.
 
 ghost use Rattle.std.specs.Prelude.{◌≡◌, ◌<◌, ◌+◌, ◌^◌, ◌++◌, pos, true, length, map, IfOk, OnOk};
 ghost use Rattle.std.specs.List.{list_all};

@@ -4,11 +4,9 @@ ghost use Rattle.std.specs.Prelude.{◌≡◌, ◌≤◌, length};
 ghost use Rattle.std.specs.List.{prefix_len};
 ghost use Rattle.std.specs.Option.{option_copied, option_map};
 ghost use Rattle.x64_syntax.specs.Words.{is_digit_byte};
-ghost use Rattle.vale_driver.specs.inner.Fronts.{strip, span, number_of, number_at};
+ghost use Rattle.vale_driver.specs.inner.Fronts.{strip, span, number_at};
 
-use itoa::Buffer;
-use std::str;
-use x64_syntax::is_digit;
+use x64_syntax::{is_digit, read_number};
 
 /// The bytes after a literal text.
 #[tactic(auto, unfolding(crate::specs::inner::Fronts::strip))]
@@ -44,22 +42,6 @@ pub(crate) fn number(bytes: &[u8]) -> Option<(u64, &[u8])>
     ensures { option_map (λ x. (x.0, x.1.now)) result ≡ number_at bytes.now }
 {
     let (digits, rest) = digits(bytes);
-    let n = number_from(digits)?;
+    let n = read_number(digits)?;
     Some((n, rest))
-}
-
-fn number_from(digits: &[u8]) -> Option<u64>
-    ensures { result ≡ number_of digits.now }
-{
-    let Ok(text) = str::from_utf8(digits) else {
-        return None;
-    };
-    let Ok(n) = text.parse::<u64>() else {
-        return None;
-    };
-    if Buffer::new().format(n).as_bytes() == digits {
-        Some(n)
-    } else {
-        None
-    }
 }

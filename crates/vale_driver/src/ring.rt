@@ -194,7 +194,7 @@ fn hypothesis_sides(hyps: &[Term], at: usize) -> Option<(&Term, &Term)>
     }
 }
 
-/// Whether the rule applies: for every monomial the coefficients of the goal's sides and of the weight_of sum of the
+/// Whether the rule applies: for every monomial the coefficients of the goal's sides and of the weighted sum of the
 /// hypotheses' sides agree modulo 2^64, and the sides are narrow enough.
 pub(crate) fn ring_closes(
     alloc: Global,

@@ -9,7 +9,7 @@ ghost use Rattle.vale_driver.specs.inner.ConditionTerms.{is_built, present_versi
 
 use x64_syntax::{AluOp, Ins, Reg};
 
-/// The present_versions version of each place: how often it was written. The instructions so far write all flags or none.
+/// The present version of each place: how often it was written. The instructions so far write all flags or none.
 #[derive(Drop)]
 pub(crate) struct Versions {
     registers: [u64; 16],

@@ -1,4 +1,4 @@
--- The condition's terms, as the checker builds them over the present_versions versions of places.
+-- The condition's terms, as the checker builds them over the present versions of places.
 use Rattle.std.specs.Prelude.{ℕ, Bool, true, false, List, [], ◌∷◌, get_or}
 use Rattle.x64_syntax.specs.declared.places.Reg.{Reg as GeneralReg}
 use Rattle.x64_syntax.specs.declared.places.FlagName.TheVariants.{Cf, Zf, Sf, Of}
@@ -34,7 +34,7 @@ is_built (Mov d s) = true
 is_built (Alu Add d s) = true
 is_built _ = false
 
--- an expression over the present_versions versions and the next ones
+-- an expression over the present versions and the next ones
 abbrev pub term : Versions → Exp → Tm
 term v e = exp_term (λ p. version p (v p)) (λ p. version p (v p + 1)) no_terms e
 
