@@ -14,8 +14,8 @@ use Rattle.x64_evaluator.proofs.OneState.{one_stop, no_stop}
 use Rattle.vale_driver.specs.declared.status.Refusal.{Refusal}
 use Rattle.vale_driver.specs.Texts.{TextRefused, long_text, line_text, label_text, TextRead, is_wide, is_named, WideRefused, Begun, StateRefused, long_state, line_state, BegunRefused, by_text, wide, nowhere, EvalRefused, before, behind, IsReport}
 use Rattle.vale_driver.specs.Words.{EvalWords}
-use Rattle.vale_driver.specs.Causes as cause
 use Rattle.vale_driver.specs.Causes.{Cause, refusal_of}
+use Rattle.vale_driver.specs.Causes as cause
 
 -- two faults of a text are one
 line_same : (text : List ℕ) (m n : ℕ) → BadLine text m → BadLine text n → m ≡ n

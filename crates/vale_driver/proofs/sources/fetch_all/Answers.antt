@@ -2,11 +2,11 @@ use Rattle.std.proofs.Common.{◌+◌, ◌∷◌, Some, None, sym, ap, ◌∙◌
 use Rattle.std.specs.Prelude.{IsTrue, IfSome, length, string_bytes, ◌<◌, codes}
 use Rattle.vale_driver.specs.Words.{texts}
 use Rattle.vale_driver.specs.Limits.{source_limit}
+use Rattle.vale_driver.specs.Causes.{refusal_of}
 use Rattle.vale_driver.proofs.Files.{turn, at_turn, fetched_none, refused_long, opened_all}
 use Rattle.vale_driver.proofs.RingCode.{drop_all}
 use Rattle.vale_driver.proofs.sources.fetch_all.Goals as goal
 use Rattle.vale_driver.specs.Causes as cause
-use Rattle.vale_driver.specs.Causes.{refusal_of}
 
 pub fetch-requires : goal.fetch-requires
 fetch-requires g c =
