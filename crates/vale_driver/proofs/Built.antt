@@ -42,7 +42,7 @@ use Rattle.vale_driver.specs.Certificate.{Pair, Proves}
 use Rattle.vale_driver.specs.Ring.{ring_closes}
 use Rattle.vale_driver.specs.inner.ConditionTerms.{is_built}
 use Rattle.vale_driver.specs.Build.{contract_of, changes_place, condition_hyps, condition_goal, straight_code, exports_of, lowered_code}
-use Rattle.vale_driver.specs.Words.{Build, BuildWords}
+use Rattle.vale_driver.specs.Words.{BuildWords}
 use Rattle.vale_driver.specs.Builds.{BuildFiles, BuildHolds, Accepted, IsBuilt}
 use Rattle.vale_driver.specs.inner.Stops.{SourcesSpell, FileHolds}
 use Rattle.vale_driver.proofs.RingSound.{ring_sound}

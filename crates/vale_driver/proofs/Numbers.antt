@@ -1,18 +1,13 @@
 -- Numbers in decimal digits.
-use Rattle.std.proofs.Common.{◌≡◌, ℕ, ◌<◌, ◌≤◌, ◌^◌, ◌⊎◌, inl, inr, length, arith, nat_le, Err, Bool, true, false, List, Some, None, Result, Ok, refl, sym, ap, ◌∙◌, subst, ◌&&◌, decimal, ltb}
-use Rattle.std.specs.Str.{bytes_eq}
+use Rattle.std.proofs.Common.{◌≡◌, ℕ, ◌<◌, ◌≤◌, ◌^◌, ◌⊎◌, inl, inr, length, arith, nat_le, Err, true, List, Some, None, Result, Ok, refl, ap, ◌∙◌}
 use Rattle.std.specs.Str.Parse.{digits_value, ParsesUnsigned}
-use Rattle.std.proofs.lemmas.Bool.{and_parts, and_from, and_right, ltb-true, lt-ltb, leb-true, le-leb, lt-leb, cases_lt}
+use Rattle.std.proofs.lemmas.Bool.{and_parts, and_from, and_right, leb-true, le-leb, lt-leb, cases_lt}
 use Rattle.std.proofs.lemmas.Str.Parse.{IsDigitsTest, numerals_by_value, parse_digits}
 use Rattle.std.specs.List.{list_all}
 use Rattle.std.specs.Result.{OkIff, result_ok}
 use Rattle.x64_syntax.specs.Words.{is_digit_byte}
 use Rattle.vale_driver.specs.Words.{is_number, step_count, value_if}
 use Rattle.vale_driver.specs.Limits.{step_limit}
-use Rattle.std.proofs.lemmas.Slice.Eq.{bytes_eq-Decides}
-use Rattle.std.proofs.lemmas.Fmt.{decimal_is_IsNumeral, IsAscii-decimal, parse-decimal}
-use Rattle.std.specs.Str.{IsUtf8}
-use Rattle.std.proofs.lemmas.Str.{IsUtf8-from_ascii}
 
 -- digits, as words have them
 tells : IsDigitsTest (λ ds. list_all is_digit_byte ds ≡ true)

@@ -1,6 +1,6 @@
 -- There is one first refusal at most, and none where all is accepted.
 use Rattle.std.proofs.Common.{◌≡◌, ℕ, List, [], ◌∷◌, ◌++◌, map, Option, Some, None, refl, sym, ap, ◌∙◌, subst, arith, inl, inr}
-use Rattle.std.specs.Prelude.{IfSome, codes, drop}
+use Rattle.std.specs.Prelude.{IfSome, drop}
 use Rattle.std.specs.List.{AllByRecursion}
 use Rattle.std.proofs.lemmas.Bool.{false≢true}
 use Rattle.std.proofs.lemmas.Option.{same_Some}
@@ -20,7 +20,7 @@ use Rattle.vale_driver.specs.inner.CertificateFront.{certificate_at}
 use Rattle.vale_driver.specs.Ring.{ring_closes}
 use Rattle.vale_driver.specs.Build.{condition_hyps, condition_goal}
 use Rattle.vale_driver.specs.Sources.{Source, FirstOf, Phase, now, later, IsShort, IsTooLong, HasTokens, LacksToken, IsRead, HasDecls, LacksDeclaration, Declared, Spells, AreNoForm}
-use Rattle.vale_driver.specs.Words.{Build, BuildWords}
+use Rattle.vale_driver.specs.Words.{BuildWords}
 use Rattle.vale_driver.specs.Builds.{BuildFiles, BuildHolds, BuildTold, sources_of, Behind, no_form, no_certificate, no_step, CertificateRefused, BuildRefusal, Accepted}
 use Rattle.vale_driver.specs.Told.{EachAsTold}
 use Rattle.vale_driver.specs.Causes.{refusal_of}

@@ -1,5 +1,5 @@
 -- A text or a state has one refusal at most, and none where it is read.
-use Rattle.std.proofs.Common.{◌≡◌, ℕ, List, Option, Some, None, sym, ap, ◌∙◌, subst, arith, inl, inr, ◌⊎◌, take, ◌+◌, codes}
+use Rattle.std.proofs.Common.{◌≡◌, ℕ, List, Option, Some, None, sym, ap, ◌∙◌, subst, arith, inl, inr, ◌⊎◌, take, ◌+◌}
 use Rattle.std.specs.Prelude.{position, Result, Ok, Err}
 use Rattle.std.proofs.lemmas.Option.{same_Some}
 use Rattle.x64_syntax.specs.declared.items.Item.{Item}

@@ -1,5 +1,5 @@
 -- What the phases over the source files leave to each other.
-use Rattle.std.specs.Prelude.{◌≡◌, ◌≤◌, ℕ, length, List, [], ◌∷◌, ◌++◌, map, Option, String, string_bytes}
+use Rattle.std.specs.Prelude.{◌≡◌, ◌≤◌, ℕ, length, List, [], ◌∷◌, ◌++◌, map, Option, String}
 use Rattle.std.specs.List.{AllByRecursion}
 use Rattle.std.specs.declared.alloc.Global.{Global}
 use Rattle.vale_syntax.specs.Tokens.{LexResult, All, tokens_from}
@@ -10,7 +10,7 @@ use Rattle.vale_driver.specs.declared.sources.Source.{Source as AFile}
 use Rattle.vale_driver.specs.declared.sources.Scanned.{Scanned}
 use Rattle.vale_parser.specs.Sources.{StopsAt}
 use Rattle.vale_syntax.specs.declared.spot.Spot.{Spot}
-use Rattle.std.specs.Prelude.{Some, codes, option_map}
+use Rattle.std.specs.Prelude.{option_map}
 use Rattle.std.specs.Borrow.{Bor}
 use Rattle.vale_driver.specs.declared.status.Refusal.{Refusal}
 use Rattle.vale_lexer.specs.declared.scan.LexFault.{LexFault}

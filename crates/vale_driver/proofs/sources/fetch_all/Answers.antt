@@ -1,5 +1,5 @@
-use Rattle.std.proofs.Common.{◌+◌, ◌∷◌, Some, None, sym, ap, ◌∙◌, subst, drop}
-use Rattle.std.specs.Prelude.{IsTrue, IfSome, length, string_bytes, ◌<◌, codes}
+use Rattle.std.proofs.Common.{◌+◌, ◌∷◌, sym, ap, ◌∙◌, subst, drop}
+use Rattle.std.specs.Prelude.{IsTrue, IfSome, length, string_bytes, ◌<◌}
 use Rattle.vale_driver.specs.Words.{texts}
 use Rattle.vale_driver.specs.Limits.{source_limit}
 use Rattle.vale_driver.specs.Causes.{refusal_of}

@@ -1,5 +1,4 @@
-use Rattle.std.proofs.Common.{◌+◌, Some, Err, ap, ◌∙◌, subst, drop, map}
-use Rattle.std.specs.Prelude.{codes}
+use Rattle.std.proofs.Common.{◌+◌, Err, ap, ◌∙◌, subst, drop, map}
 use Rattle.std.proofs.lemmas.List.{map-append}
 use Rattle.vale_syntax.specs.inner.CodeTrees.{decl_tree}
 use Rattle.vale_syntax.specs.Declarations.{AreDecls}
