@@ -1,8 +1,8 @@
 #!/usr/bin/env python3
 """Proves and builds the program, with a line on standard error for each crate.
 
-`rt all check` takes crates that don't stand on each other side by side, with one processor each. So the crate at the
-bottom is proved before, and those at the top, which stand on all others, are proved behind, each with all processors.
+`rt all check` takes crates that don't stand on each other side by side, with one job each. So the crate at the bottom is
+proved before, and those at the top, which stand on all others, are proved behind: alone, so that rt gives them more.
 What the prover says is kept in crates/vale/out/prove.log, which is named where a crate fails.
 """
 import os
