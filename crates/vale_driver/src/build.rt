@@ -1,17 +1,18 @@
 // The command `build`, as far as the text that is to be written.
 
-ghost use Rattle.std.specs.Prelude.{◌≡◌, ℕ, true, List, ◌≤◌, ◌<◌, ◌^◌, length, IsTrue, IfOk, IfErr, IfSome};
+ghost use Rattle.std.specs.Prelude.{◌≡◌, ℕ, true, List, ◌≤◌, ◌<◌, ◌^◌, length, IsTrue, IfOk, IfErr, IfSome, OnOk};
 ghost use Rattle.std.specs.List.{AllByRecursion, list_all};
 ghost use Rattle.vale_outside.specs.Outside.{Rose};
 ghost use Rattle.straight_line.specs.inner.Fits.{IsStraight};
 ghost use Rattle.vale_driver.specs.Certificate.{Pair, Proves};
 ghost use Rattle.vale_driver.specs.Ring.{ring_closes};
 ghost use Rattle.vale_driver.specs.inner.ConditionTerms.{is_built};
-ghost use Rattle.vale_driver.specs.Build.{condition_hyps, condition_goal};
+ghost use Rattle.gas_text.specs.Gas.{gas_text};
+ghost use Rattle.vale_driver.specs.Build.{condition_hyps, condition_goal, lowered_code};
 ghost use Rattle.vale_driver.specs.Words.{texts};
 ghost use Rattle.vale_driver.specs.inner.Phases.{build_of};
 ghost use Rattle.vale_driver.specs.Builds.{IsBuilt, BuildRefused};
-ghost use Rattle.vale_driver.specs.inner.Stops.{StopsBy, FileHolds, CertificateRefusal};
+ghost use Rattle.vale_driver.specs.inner.Stops.{StopsBy, FileHolds, CertificateRefusal, StepRefusal};
 
 use crate::cause::{Cause, refusal_of};
 use crate::certificate::{CertificateFault, Pair, read_certificate};
@@ -65,6 +66,29 @@ fn closes(alloc: Global, program: &StraightLine, steps: &[Pair]) -> Result<bool,
     ring_closes(alloc, sequent.hyps.as_slice(), &sequent.goal, steps)
 }
 
+// Refuses steps that don't close the procedure's condition.
+fn check(alloc: Global, cert: &str, program: &StraightLine, steps: &[Pair]) -> Result<(), Stop>
+    requires few { length program.now.instructions < 2 ^ 63 }
+    requires built { list_all is_built program.now.instructions ≡ true }
+    ensures closed { OnOk result (ring_closes (condition_hyps program.now) (condition_goal program.now) steps.now ≡ true) }
+    ensures stops { IfErr result (StopsBy (StepRefusal program.now steps.now cert.now) ⊥) }
+{
+    if closes(alloc, program, steps)? {
+        return Ok(());
+    }
+    let cause = Cause::NoStep(cert, program.name.as_bytes());
+    Err(Stop::Refused(refusal_of(alloc, cause)?))
+}
+
+// The text of the procedure's export.
+fn text_of(alloc: Global, program: &StraightLine) -> Result<Vec<u8>, AllocError>
+    requires { IsStraight program.now }
+    ensures { IfOk result (λ text. text.items ≡ gas_text (lowered_code program.now)) }
+{
+    let items = items_of(alloc, program)?;
+    print(alloc, &items)
+}
+
 /// The text that a build writes.
 pub(crate) fn build<S: Store>(
     alloc: Global,
@@ -80,11 +104,6 @@ pub(crate) fn build<S: Store>(
 {
     let program = read_sources(alloc, store, words.files)?;
     let steps = certificate_file(alloc, store, words.cert, program.name.as_bytes())?;
-    if !closes(alloc, &program, &steps)? {
-        let cause = Cause::NoStep(words.cert, program.name.as_bytes());
-        let refusal = refusal_of(alloc, cause)?;
-        return Err(Stop::Refused(refusal));
-    }
-    let items = items_of(alloc, &program)?;
-    Ok(print(alloc, &items)?)
+    check(alloc, words.cert, &program, &steps)?;
+    Ok(text_of(alloc, &program)?)
 }

@@ -8,7 +8,7 @@ ghost use Rattle.term_core.specs.declared.operator.BinOp.TheVariants as bin;
 ghost use Rattle.term_core.specs.Terms.{tree, trees};
 ghost use Rattle.term_core.specs.Terms as tm;
 ghost use Rattle.x64_meaning.specs.Exp.{Before, After};
-ghost use Rattle.x64_meaning.specs.Table.{source, equations};
+ghost use Rattle.x64_meaning.specs.Table.{source, sum, int_of, xor_of, equations};
 ghost use Rattle.x64_meaning.specs.Condition.{hypothesis, straight_hyps, first_versions, end_versions};
 ghost use Rattle.vale_driver.specs.inner.ConditionTerms.{is_built, changed_bits, present_versions, term, move_term, sum_term, carry_term, zero_term, sign_term, overflow_term, addition_terms, promise_term};
 ghost use Rattle.vale_driver.specs.Build.{condition_hyps, condition_goal};
@@ -69,6 +69,14 @@ fn source(alloc: Global, versions: &Versions, s: &Opr) -> Result<Term, NoMemory>
     }
 }
 
+// A source operand's value before the instruction, as a whole number.
+fn source_number(alloc: Global, versions: &Versions, s: &Opr) -> Result<Term, NoMemory>
+    ensures { IfOk result (λ t. tree t ≡ term (present_versions versions.now) (int_of (source s.now))) }
+{
+    let source = source(alloc, versions, s)?;
+    unary(alloc, UnOp::Int, source)
+}
+
 /// The versions before an instruction, and the register that it writes.
 #[derive(Clone, Copy)]
 struct Written<'a> {
@@ -102,14 +110,48 @@ impl<'a> Written<'a> {
         version(alloc, Place::Flag(flag), self.versions.flags() + 1)
     }
 
+    // The register afterwards is this.
+    fn register_is(&self, alloc: Global, value: Term) -> Result<Term, NoMemory>
+        ensures { IfOk result (λ t. tree t ≡ tm.Bin bin.Eq (term (present_versions self.now.versions.now) (After (place.Reg self.now.d))) (tree value)) }
+    {
+        let after = self.after(alloc)?;
+        binary(alloc, BinOp::Eq, after, value)
+    }
+
+    // The flag afterwards is this.
+    fn flag_is(&self, alloc: Global, flag: FlagName, value: Term) -> Result<Term, NoMemory>
+        ensures { IfOk result (λ t. tree t ≡ tm.Bin bin.Eq (term (present_versions self.now.versions.now) (After (place.Flag flag))) (tree value)) }
+    {
+        let flag = self.flag(alloc, flag)?;
+        binary(alloc, BinOp::Eq, flag, value)
+    }
+
+    // The register before and the source, added up.
+    fn added(&self, alloc: Global, s: &Opr) -> Result<Term, NoMemory>
+        ensures { IfOk result (λ t. tree t ≡ term (present_versions self.now.versions.now) (sum (Before (place.Reg self.now.d)) (source s.now))) }
+    {
+        let before = self.before(alloc)?;
+        let source = source(alloc, self.versions, s)?;
+        binary(alloc, BinOp::Add, before, source)
+    }
+
+    // The same, as whole numbers.
+    fn added_numbers(&self, alloc: Global, s: &Opr) -> Result<Term, NoMemory>
+        ensures { IfOk result (λ t. tree t ≡ term (present_versions self.now.versions.now) (sum (int_of (Before (place.Reg self.now.d))) (int_of (source s.now)))) }
+    {
+        let before = self.before(alloc)?;
+        let number = unary(alloc, UnOp::Int, before)?;
+        let source = source_number(alloc, self.versions, s)?;
+        binary(alloc, BinOp::Add, number, source)
+    }
+
     // The register is the source.
     #[tactic(auto, unfolding(crate::specs::inner::ConditionTerms::move_term))]
     fn moved(&self, alloc: Global, s: &Opr) -> Result<Term, NoMemory>
         ensures { IfOk result (λ t. tree t ≡ move_term (present_versions self.now.versions.now) self.now.d s.now) }
     {
-        let after = self.after(alloc)?;
         let source = source(alloc, self.versions, s)?;
-        binary(alloc, BinOp::Eq, after, source)
+        self.register_is(alloc, source)
     }
 
     // The register is the sum.
@@ -117,11 +159,8 @@ impl<'a> Written<'a> {
     fn sum(&self, alloc: Global, s: &Opr) -> Result<Term, NoMemory>
         ensures { IfOk result (λ t. tree t ≡ sum_term (present_versions self.now.versions.now) self.now.d s.now) }
     {
-        let after = self.after(alloc)?;
-        let before = self.before(alloc)?;
-        let source = source(alloc, self.versions, s)?;
-        let sum = binary(alloc, BinOp::Add, before, source)?;
-        binary(alloc, BinOp::Eq, after, sum)
+        let sum = self.added(alloc, s)?;
+        self.register_is(alloc, sum)
     }
 
     // The carry flag is whether the sum of the numbers reaches 2^64.
@@ -129,14 +168,9 @@ impl<'a> Written<'a> {
     fn carry(&self, alloc: Global, s: &Opr) -> Result<Term, NoMemory>
         ensures { IfOk result (λ t. tree t ≡ carry_term (present_versions self.now.versions.now) self.now.d s.now) }
     {
-        let flag = self.flag(alloc, FlagName::Cf)?;
-        let before = self.before(alloc)?;
-        let a = unary(alloc, UnOp::Int, before)?;
-        let source = source(alloc, self.versions, s)?;
-        let b = unary(alloc, UnOp::Int, source)?;
-        let sum = binary(alloc, BinOp::Add, a, b)?;
+        let sum = self.added_numbers(alloc, s)?;
         let carries = reaches(alloc, CARRIES_FROM, sum)?;
-        binary(alloc, BinOp::Eq, flag, carries)
+        self.flag_is(alloc, FlagName::Cf, carries)
     }
 
     // The zero flag is whether the register is 0.
@@ -144,11 +178,10 @@ impl<'a> Written<'a> {
     fn zero(&self, alloc: Global) -> Result<Term, NoMemory>
         ensures { IfOk result (λ t. tree t ≡ zero_term (present_versions self.now.versions.now) self.now.d) }
     {
-        let flag = self.flag(alloc, FlagName::Zf)?;
         let after = self.after(alloc)?;
         let test = binary(alloc, BinOp::Eq, after, Term::W64(0))?;
         let is_zero = one_if(alloc, test)?;
-        binary(alloc, BinOp::Eq, flag, is_zero)
+        self.flag_is(alloc, FlagName::Zf, is_zero)
     }
 
     // The sign flag is whether the register's highest bit is set.
@@ -156,11 +189,10 @@ impl<'a> Written<'a> {
     fn sign(&self, alloc: Global) -> Result<Term, NoMemory>
         ensures { IfOk result (λ t. tree t ≡ sign_term (present_versions self.now.versions.now) self.now.d) }
     {
-        let flag = self.flag(alloc, FlagName::Sf)?;
         let after = self.after(alloc)?;
         let number = unary(alloc, UnOp::Int, after)?;
         let is_negative = reaches(alloc, NEGATIVE_FROM, number)?;
-        binary(alloc, BinOp::Eq, flag, is_negative)
+        self.flag_is(alloc, FlagName::Sf, is_negative)
     }
 
     // The overflow flag is whether the sum's sign differs from both signs.
@@ -171,17 +203,25 @@ impl<'a> Written<'a> {
         let both = self.changed(alloc, s)?;
         let number = unary(alloc, UnOp::Int, both)?;
         let overflows = reaches(alloc, NEGATIVE_FROM, number)?;
-        let flag = self.flag(alloc, FlagName::Of)?;
-        binary(alloc, BinOp::Eq, flag, overflows)
+        self.flag_is(alloc, FlagName::Of, overflows)
     }
 
     // The bits in which the register after it differs from both the register before and the source.
     fn changed(&self, alloc: Global, s: &Opr) -> Result<Term, NoMemory>
         ensures { IfOk result (λ t. tree t ≡ term (present_versions self.now.versions.now) (changed_bits self.now.d s.now)) }
     {
-        let left = self.changed_from(alloc, self.before(alloc)?)?;
-        let right = self.changed_from(alloc, source(alloc, self.versions, s)?)?;
+        let before = self.before(alloc)?;
+        let left = self.changed_from(alloc, before)?;
+        let right = self.changed_source(alloc, s)?;
         binary(alloc, BinOp::And, left, right)
+    }
+
+    // The bits in which the source and the register after it differ.
+    fn changed_source(&self, alloc: Global, s: &Opr) -> Result<Term, NoMemory>
+        ensures { IfOk result (λ t. tree t ≡ term (present_versions self.now.versions.now) (xor_of (source s.now) (After (place.Reg self.now.d)))) }
+    {
+        let source = source(alloc, self.versions, s)?;
+        self.changed_from(alloc, source)
     }
 
     // The bits in which a term and the register after it differ.

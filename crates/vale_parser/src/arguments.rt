@@ -11,7 +11,7 @@ ghost use Rattle.vale_syntax.specs.inner.Matches.{Gives};
 ghost use Rattle.vale_parser.specs.inner.Things.{Thing, AnArg, thing_parser};
 
 use crate::clauses::asked;
-use crate::front::{Read, expect, expression, is_at};
+use crate::front::{Read, before, expect, expression, is_at};
 use crate::part::{Part, closed, separated};
 use crate::words::{is_invariant, is_name};
 use expr_parser::{after, name_of};
@@ -48,11 +48,10 @@ fn memory_at<'a>(
     ensures { Gives (λ r. (arg_tree r.part, r.rest.now)) result (memory_at block (tree index) tokens.now) }
 {
     let rest = expect(tokens, Mark::RoundOpen)?;
-    let address = some_expressions(alloc, rest)?;
-    let rest = expect(address.rest, Mark::RoundClose)?;
+    let address = before(some_expressions(alloc, rest)?, Mark::RoundClose)?;
     Ok(Read {
         part: Arg::Memory(block, index, address.part),
-        rest,
+        rest: address.rest,
     })
 }
 

@@ -8,7 +8,7 @@ ghost use Rattle.vale_parser.specs.inner.Productions.{only_if, expression_end, a
 ghost use Rattle.vale_syntax.specs.inner.Matches.{Gives};
 ghost use Rattle.vale_parser.specs.inner.Things.{Thing, AClause, ALClause, thing_parser};
 
-use crate::front::{Read, expect, expression};
+use crate::front::{Read, before, expect, expression};
 use crate::parameters::{names, places};
 use crate::part::{Part, Repeated, many};
 use crate::words::abi_at;
@@ -51,10 +51,13 @@ fn abi_clause(spot: Spot, tokens: &[Token]) -> Result<Read<'_, Clause>, MatchFau
     ensures { Gives (λ r. (clause_tree r.part, r.rest.now)) result (abi_clause spot tokens.now) }
 {
     match abi_at(tokens) {
-        Some(abi) => Ok(Read {
-            part: Clause::Abi(spot, abi),
-            rest: expect(after(tokens, 1), Mark::Semicolon)?,
-        }),
+        Some(abi) => {
+            let rest = expect(after(tokens, 1), Mark::Semicolon)?;
+            Ok(Read {
+                part: Clause::Abi(spot, abi),
+                rest,
+            })
+        }
         None => Err(MatchFault::NoMatch),
     }
 }
@@ -62,20 +65,20 @@ fn abi_clause(spot: Spot, tokens: &[Token]) -> Result<Read<'_, Clause>, MatchFau
 fn reads_clause<'a>(alloc: Global, tokens: &'a [Token]) -> Result<Read<'a, Clause>, MatchFault>
     ensures { Gives (λ r. (clause_tree r.part, r.rest.now)) result (reads_clause tokens.now) }
 {
-    let found = places(alloc, after(tokens, 1))?;
+    let found = before(places(alloc, after(tokens, 1))?, Mark::Semicolon)?;
     Ok(Read {
         part: Clause::Reads(spot_of(tokens), found.part),
-        rest: expect(found.rest, Mark::Semicolon)?,
+        rest: found.rest,
     })
 }
 
 fn modifies_clause<'a>(alloc: Global, tokens: &'a [Token]) -> Result<Read<'a, Clause>, MatchFault>
     ensures { Gives (λ r. (clause_tree r.part, r.rest.now)) result (modifies_clause tokens.now) }
 {
-    let found = names(alloc, after(tokens, 1))?;
+    let found = before(names(alloc, after(tokens, 1))?, Mark::Semicolon)?;
     Ok(Read {
         part: Clause::Modifies(spot_of(tokens), found.part),
-        rest: expect(found.rest, Mark::Semicolon)?,
+        rest: found.rest,
     })
 }
 

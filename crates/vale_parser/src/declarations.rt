@@ -10,7 +10,7 @@ ghost use Rattle.vale_parser.specs.inner.Reads.{header_view};
 
 use crate::arguments::expressions;
 use crate::clauses::{asked, clauses, expression_end, lemma_clauses};
-use crate::front::{Read, expect, name};
+use crate::front::{Read, before, expect, name};
 use crate::parameters::{binds, parameters};
 use crate::words::{is_step, is_zero, sort_behind};
 use crate::{lemma_statements, statements};
@@ -161,15 +161,12 @@ fn function<'a>(alloc: Global, tokens: &'a [Token]) -> Result<Read<'a, Decl>, Ma
 fn export<'a>(alloc: Global, tokens: &'a [Token]) -> Result<Read<'a, Decl>, MatchFault>
     ensures { Gives (λ r. (decl_tree r.part, r.rest.now)) result (export_ tokens.now) }
 {
-    let exported = name(alloc, after(tokens, 1))?;
-    let rest = expect(exported.rest, Mark::Equals)?;
-    let procedure = name(alloc, rest)?;
-    let rest = expect(procedure.rest, Mark::RoundOpen)?;
-    let args = expressions(alloc, rest)?;
-    let rest = expect(args.rest, Mark::Semicolon)?;
+    let exported = before(name(alloc, after(tokens, 1))?, Mark::Equals)?;
+    let procedure = before(name(alloc, exported.rest)?, Mark::RoundOpen)?;
+    let args = before(expressions(alloc, procedure.rest)?, Mark::Semicolon)?;
     Ok(Read {
         part: Decl::Export(spot_of(tokens), exported.part, procedure.part, args.part),
-        rest,
+        rest: args.rest,
     })
 }
 

@@ -1,6 +1,6 @@
 // What is read off the front of a list of tokens.
 
-ghost use Rattle.std.specs.Prelude.{◌≡◌};
+ghost use Rattle.std.specs.Prelude.{◌≡◌, IfOk};
 ghost use Rattle.std.specs.List.{list_all};
 ghost use Rattle.vale_syntax.specs.Peek.{peek};
 ghost use Rattle.vale_syntax.specs.inner.CodeTrees.{tree};
@@ -37,6 +37,18 @@ pub(crate) fn expect(tokens: &[Token], mark: Mark) -> Result<&[Token], MatchFaul
     } else {
         Err(MatchFault::NoMatch)
     }
+}
+
+/// What was read, where a mark stands behind it.
+pub(crate) fn before<'a, T: Drop>(found: Read<'a, T>, mark: Mark) -> Result<Read<'a, T>, MatchFault>
+    ensures rest { Gives (λ r. r.rest.now) result (expect mark found.entry.rest.now) }
+    ensures part { IfOk result (λ r. r.part ≡ found.entry.part) }
+{
+    let rest = expect(found.rest, mark)?;
+    Ok(Read {
+        part: found.part,
+        rest,
+    })
 }
 
 /// A name.

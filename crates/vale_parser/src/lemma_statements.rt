@@ -10,7 +10,7 @@ ghost use Rattle.vale_parser.specs.inner.Reads.{lstatement_view, lbody_view, lel
 
 use crate::arguments::{expressions, test};
 use crate::clauses::expression_end;
-use crate::front::{expect, is_at};
+use crate::front::{before, expect, is_at};
 use crate::words::is_else;
 use expr_parser::{after, name_of, spot_of};
 use sqlite_items::Items;
@@ -56,12 +56,11 @@ fn call<'a>(alloc: Global, tokens: &'a [Token]) -> Result<LemmaStated<'a>, Match
     ensures shallow { IfOk result (λ s. s.height ≤ 1) }
 {
     let rest = expect(after(tokens, 1), Mark::RoundOpen)?;
-    let found = expressions(alloc, rest)?;
-    let rest = expect(found.rest, Mark::Semicolon)?;
+    let found = before(expressions(alloc, rest)?, Mark::Semicolon)?;
     Ok(LemmaStated {
         tree: LemmaStmt::Call(name_of(alloc, tokens)?, found.part),
         height: 1,
-        rest,
+        rest: found.rest,
     })
 }
 

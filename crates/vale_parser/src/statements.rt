@@ -12,7 +12,7 @@ ghost use Rattle.vale_parser.specs.inner.Reads.{statement_view, body_view, else_
 
 use crate::arguments::{arguments, invariants, test};
 use crate::clauses::{asked, expression_end};
-use crate::front::{Read, expect, expression, is_at, name};
+use crate::front::{Read, before, expect, expression, is_at, name};
 use crate::words::{is_decreases, is_else, is_if, sort_behind};
 use expr_parser::{after, name_of, spot_of};
 use sqlite_items::Items;
@@ -56,22 +56,20 @@ pub(crate) struct Branches<'a> {
 fn call_at<'a>(alloc: Global, tokens: &'a [Token]) -> Result<Read<'a, Stmt>, MatchFault>
     ensures { Gives (λ r. (stmt_tree r.part, r.rest.now)) result (call_at tokens.now) }
 {
-    let found = arguments(alloc, after(tokens, 2))?;
-    let rest = expect(found.rest, Mark::Semicolon)?;
+    let found = before(arguments(alloc, after(tokens, 2))?, Mark::Semicolon)?;
     Ok(Read {
         part: Stmt::Call(name_of(alloc, tokens)?, found.part),
-        rest,
+        rest: found.rest,
     })
 }
 
 fn assign_at<'a>(alloc: Global, tokens: &'a [Token]) -> Result<Read<'a, Stmt>, MatchFault>
     ensures { Gives (λ r. (stmt_tree r.part, r.rest.now)) result (assign_at tokens.now) }
 {
-    let found = expression(alloc, after(tokens, 2))?;
-    let rest = expect(found.rest, Mark::Semicolon)?;
+    let found = before(expression(alloc, after(tokens, 2))?, Mark::Semicolon)?;
     Ok(Read {
         part: Stmt::Assign(name_of(alloc, tokens)?, found.part),
-        rest,
+        rest: found.rest,
     })
 }
 
@@ -81,11 +79,10 @@ fn ghost_at<'a>(alloc: Global, tokens: &'a [Token]) -> Result<Read<'a, Stmt>, Ma
     let name = name(alloc, after(tokens, 1))?;
     let sort = sort_behind(name.rest)?;
     let rest = expect(sort.rest, Mark::Equals)?;
-    let found = expression(alloc, rest)?;
-    let rest = expect(found.rest, Mark::Semicolon)?;
+    let found = before(expression(alloc, rest)?, Mark::Semicolon)?;
     Ok(Read {
         part: Stmt::Ghost(spot_of(tokens), name.part, sort.part, found.part),
-        rest,
+        rest: found.rest,
     })
 }
 

@@ -1,5 +1,5 @@
 -- Why a command ends without output.
-use Rattle.std.specs.Prelude.{◌≡◌, ℕ, ◌≤◌, ◌<◌, List, length, Option, Some, None, Result, Ok, Err, IfSome, Vec}
+use Rattle.std.specs.Prelude.{◌≡◌, ℕ, false, ◌≤◌, ◌<◌, List, length, Option, Some, None, Result, Ok, Err, IfSome, Vec}
 use Rattle.std.specs.List.{AllByRecursion}
 use Rattle.std.specs.declared.alloc.Global.{Global}
 use Rattle.vale_outside.specs.Outside.{Rose}
@@ -10,7 +10,9 @@ use Rattle.vale_driver.specs.declared.stop.Stop.TheVariants.{Refused, ReadFault,
 use Rattle.vale_driver.specs.Sources.{sources_from, IsShort, Spells}
 use Rattle.vale_driver.specs.Certificate.{Pair, Proves}
 use Rattle.vale_driver.specs.Told.{IsAsTold, EachAsTold}
-use Rattle.vale_driver.specs.Causes.{refusal_of, NoCertificate}
+use Rattle.vale_driver.specs.Causes.{refusal_of, NoCertificate, NoStep}
+use Rattle.vale_driver.specs.Ring.{ring_closes}
+use Rattle.vale_driver.specs.Build.{condition_hyps, condition_goal}
 use Rattle.vale_driver.specs.Builds.{BuildRefusal}
 
 -- a refusal of which this is so, a fault of the store, or want of memory
@@ -51,3 +53,8 @@ pub record FileHolds (told : Option (List ℕ)) (Reads : List ℕ → Type 0) : 
 pub record CertificateRefusal (told : Option (List ℕ)) (cert name : List ℕ) (r : Refusal) : Type 0 where
   pub is : r ≡ refusal_of (NoCertificate cert)
   pub none : FileHolds told (λ c. (steps : List Pair) → Proves c name steps → ⊥)
+
+-- the steps don't close the procedure's condition
+pub record StepRefusal (program : StraightLine) (steps : List Pair) (cert : List ℕ) (r : Refusal) : Type 0 where
+  pub is : r ≡ refusal_of (NoStep cert program.name)
+  pub not_closed : ring_closes (condition_hyps program) (condition_goal program) steps ≡ false
