@@ -17,12 +17,24 @@ pub(crate) struct Answer {
     pub(crate) err: Vec<u8>,
 }
 
-fn make_answer(alloc: Global, status: u8, out: &[u8], err: &[u8]) -> Result<Answer> {
+/// An answer of these texts.
+pub(crate) fn make_answer(alloc: Global, status: u8, out: &[u8], err: &[u8]) -> Result<Answer> {
     Ok(Answer {
         status,
         out: Vec::from_slice(alloc, out)?,
         err: Vec::from_slice(alloc, err)?,
     })
+}
+
+fn report_answer(alloc: Global, parts: &[u8]) -> Result<Answer> {
+    let text = report_text(alloc, parts)?;
+    make_answer(alloc, 0, &text, b"")
+}
+
+fn refusal_answer(alloc: Global, line: &[u8]) -> Result<Answer> {
+    let mut err = Vec::from_slice(alloc, line)?;
+    err.push(b'\n')?;
+    make_answer(alloc, 1, b"", &err)
 }
 
 /// The answer that a text tells: `done TEXT`, `refused LINE`, `usage`, `read fault`, `write fault FRONT`, `write fault
@@ -32,13 +44,10 @@ pub(crate) fn answer_of(alloc: Global, told: &[u8]) -> Result<Answer> {
         return make_answer(alloc, 0, text, b"");
     }
     if let Some(parts) = told.strip_prefix(b"report ") {
-        let text = report_text(alloc, parts)?;
-        return make_answer(alloc, 0, &text, b"");
+        return report_answer(alloc, parts);
     }
     if let Some(line) = told.strip_prefix(b"refused ") {
-        let mut err = Vec::from_slice(alloc, line)?;
-        err.push(b'\n')?;
-        return make_answer(alloc, 1, b"", &err);
+        return refusal_answer(alloc, line);
     }
     if let Some(front) = told.strip_prefix(b"write fault on err ") {
         return make_answer(alloc, 4, b"", front);

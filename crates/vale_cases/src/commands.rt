@@ -1,6 +1,6 @@
 // Runs of the program over files in memory.
 
-use crate::answer::Answer;
+use crate::answer::{Answer, make_answer};
 use anyhow::{Result, bail};
 use bstr::ByteSlice;
 use std::alloc::Global;
@@ -41,6 +41,14 @@ impl Run {
         Ok(())
     }
 
+    fn take_words(&mut self, alloc: Global, words: &[u8]) -> Result<()> {
+        for word in words.split_str(b" ") {
+            let word = String::from_str(alloc, str::from_utf8(word)?)?;
+            self.words.push(word)?;
+        }
+        Ok(())
+    }
+
     fn fail(&mut self, object: &[u8], call: u64) -> Result<()> {
         match object {
             b"store" => self.store.fail_at(call)?,
@@ -57,25 +65,19 @@ impl Run {
         alloc: Global,
         key: &[u8],
         name: &[u8],
-        value: Vec<u8>,
+        value: &[u8],
     ) -> Result<()> {
         match key {
-            b"words" => {
-                for word in value.as_slice().split_str(b" ") {
-                    let word = String::from_str(alloc, str::from_utf8(word)?)?;
-                    self.words.push(word)?;
-                }
-            }
-            b"file" => self.hold(alloc, name, value)?,
-            b"lines" => self.hold(alloc, name, lines(alloc, &value)?)?,
-            b"fails" => self.fail(name, number(&value)?)?,
+            b"words" => self.take_words(alloc, value),
+            b"file" => self.hold(alloc, name, Vec::from_slice(alloc, value)?),
+            b"lines" => self.hold(alloc, name, lines(alloc, value)?),
+            b"fails" => self.fail(name, number(value)?),
             _ => bail!("no line of a run: {:?}", key.as_bstr()),
         }
-        Ok(())
     }
 
     /// Runs the program.
-    pub(crate) fn ends(mut self, alloc: Global) -> Result<Answer> {
+    pub(crate) fn ends(&mut self, alloc: Global) -> Result<Answer> {
         let status = run(
             alloc,
             &self.words,
@@ -83,10 +85,11 @@ impl Run {
             &mut self.out,
             &mut self.err,
         );
-        Ok(Answer {
-            status: status.code(),
-            out: Vec::from_slice(alloc, self.out.bytes())?,
-            err: Vec::from_slice(alloc, self.err.bytes())?,
-        })
+        make_answer(
+            alloc,
+            status.code(),
+            self.out.bytes(),
+            self.err.bytes(),
+        )
     }
 }

@@ -167,20 +167,31 @@ pub(crate) fn code_of(alloc: Global, letters: &[u8]) -> Result<Code> {
     Ok(code)
 }
 
+fn label_of(digit: u8) -> u32 {
+    u32::from(digit.wrapping_sub(b'0'))
+}
+
+// The item of a word; none where the word is empty.
+fn item_of(alloc: Global, word: &[u8]) -> Result<Option<Item>> {
+    Ok(match word {
+        [] => None,
+        [b':', name @ ..] => Some(Item::Entry(Text::from_slice(alloc, name)?)),
+        [b'l', digit] => Some(Item::Label(label_of(*digit))),
+        [b'j', digit] => Some(Item::Jmp(label_of(*digit))),
+        [b'c', digit] => Some(Item::Jcc(Cond::Ne, label_of(*digit))),
+        [b'j'] => Some(Item::Jmp(u32::MAX)),
+        [b'r'] => Some(Item::Ret),
+        [letter, ..] => Some(Item::Ins(step_of(*letter).0)),
+    })
+}
+
 /// Items by words: `:x` an entry, `l1` a label, `j1` and `c1` jumps, `j` one to the last label of all, `r` a return, and
 /// letters of instructions.
 pub(crate) fn items_of(alloc: Global, words: &[u8]) -> Result<Vec<Item>> {
     let mut items = Vec::new(alloc);
     for word in words.split(|byte| *byte == b' ') {
-        match word {
-            [] => {}
-            [b':', name @ ..] => items.push(Item::Entry(Text::from_slice(alloc, name)?))?,
-            [b'l', digit] => items.push(Item::Label(u32::from(digit.wrapping_sub(b'0'))))?,
-            [b'j', digit] => items.push(Item::Jmp(u32::from(digit.wrapping_sub(b'0'))))?,
-            [b'c', digit] => items.push(Item::Jcc(Cond::Ne, u32::from(digit.wrapping_sub(b'0'))))?,
-            [b'j'] => items.push(Item::Jmp(u32::MAX))?,
-            [b'r'] => items.push(Item::Ret)?,
-            [letter, ..] => items.push(Item::Ins(step_of(*letter).0))?,
+        if let Some(item) = item_of(alloc, word)? {
+            items.push(item)?;
         }
     }
     Ok(items)

@@ -27,6 +27,15 @@ fn flag_of(letter: Option<&u8>) -> Flag {
     }
 }
 
+// Whether a condition holds, or the flag that it lacks.
+fn push_condition(out: &mut String, m: &Machine, c: Cond) -> Result<()> {
+    match open_flag(m, c) {
+        Some(flag) => write!(out, "{} ", flag.name())?,
+        None => write!(out, "{} ", if holds(m, c) { "yes" } else { "no" })?,
+    }
+    Ok(())
+}
+
 // For each condition whether it holds, or the flag that it lacks, where the flags are as the letters say.
 fn conditions(alloc: Global, letters: &[u8]) -> Result<String> {
     let mut m = Machine::new(Blocks::new(alloc));
@@ -35,10 +44,7 @@ fn conditions(alloc: Global, letters: &[u8]) -> Result<String> {
     }
     let mut out = String::new(alloc);
     for c in CONDITIONS {
-        match open_flag(&m, c) {
-            Some(flag) => write!(out, "{} ", flag.name())?,
-            None => write!(out, "{} ", if holds(&m, c) { "yes" } else { "no" })?,
-        }
+        push_condition(&mut out, &m, c)?;
     }
     Ok(out)
 }

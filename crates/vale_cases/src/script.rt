@@ -81,6 +81,58 @@ fn reading(alloc: Global, key: &[u8], text: &[u8]) -> Result<Option<Vec<u8>>> {
     }
 }
 
+// A case as far as it was read: its run, what it tells, and what was found by a library call.
+#[derive(Drop)]
+struct Case {
+    run: Run,
+    wanted: Option<Answer>,
+    found: Option<Answer>,
+}
+
+impl Case {
+    // Takes a line of the template, with the row's columns in it.
+    fn take(
+        &mut self,
+        alloc: Global,
+        line: Line<'_>,
+        columns: &[Vec<u8>],
+        texts: &[Named<'_>],
+    ) -> Result<()> {
+        let value = expanded(alloc, line.value, columns, texts)?;
+        match line.key {
+            b"answer" => self.wanted = Some(answer_of(alloc, &value)?),
+            b"gives" => self.wanted = Some(text_answer(alloc, value)),
+            key => match reading(alloc, key, &value)? {
+                Some(text) => self.found = Some(text_answer(alloc, text)),
+                None => {
+                    let name = expanded(alloc, line.name, columns, texts)?;
+                    self.run.take(alloc, line.key, &name, &value)?;
+                }
+            },
+        }
+        Ok(())
+    }
+
+    fn ends(&mut self, alloc: Global) -> Result<Answer> {
+        match self.found.take() {
+            Some(found) => Ok(found),
+            None => self.run.ends(alloc),
+        }
+    }
+
+    fn difference(&mut self, alloc: Global) -> Result<Option<Difference>> {
+        let found = self.ends(alloc)?;
+        let Some(wanted) = self.wanted.take() else {
+            bail!("a template without an answer");
+        };
+        if found == wanted {
+            Ok(None)
+        } else {
+            Ok(Some(Difference { wanted, found }))
+        }
+    }
+}
+
 // Tries a case: the template with the row's columns in it.
 fn try_case(
     alloc: Global,
@@ -88,35 +140,15 @@ fn try_case(
     columns: &[Vec<u8>],
     texts: &[Named<'_>],
 ) -> Result<Option<Difference>> {
-    let mut run = Run::new(alloc);
-    let mut wanted = None;
-    let mut found = None;
+    let mut case = Case {
+        run: Run::new(alloc),
+        wanted: None,
+        found: None,
+    };
     for line in template {
-        let value = expanded(alloc, line.value, columns, texts)?;
-        match line.key {
-            b"answer" => wanted = Some(answer_of(alloc, &value)?),
-            b"gives" => wanted = Some(text_answer(alloc, value)),
-            key => match reading(alloc, key, &value)? {
-                Some(text) => found = Some(text_answer(alloc, text)),
-                None => {
-                    let name = expanded(alloc, line.name, columns, texts)?;
-                    run.take(alloc, line.key, &name, value)?;
-                }
-            },
-        }
+        case.take(alloc, *line, columns, texts)?;
     }
-    let Some(wanted) = wanted else {
-        bail!("a template without an answer");
-    };
-    let found = match found {
-        Some(found) => found,
-        None => run.ends(alloc)?,
-    };
-    if found == wanted {
-        Ok(None)
-    } else {
-        Ok(Some(Difference { wanted, found }))
-    }
+    case.difference(alloc)
 }
 
 fn print_answer(rt: &impl Print, what: &str, answer: &Answer) -> Result<()> {

@@ -4,7 +4,7 @@ ghost use Rattle.std.specs.Prelude.{◌≡◌};
 ghost use Rattle.vale_syntax.specs.Peek.{peek};
 ghost use Rattle.vale_syntax.specs.inner.CodeTrees.{tree};
 ghost use Rattle.vale_syntax.specs.inner.CodeTrees.{decl_tree};
-ghost use Rattle.vale_parser.specs.inner.Productions.{head, procedure_, lemma_, function_, plain_at, parts_at, result_at, export_, declaration};
+ghost use Rattle.vale_parser.specs.inner.Productions.{head, procedure_, lemma_, function_, plain_at, parts_at, step_at, result_at, export_, declaration};
 ghost use Rattle.vale_syntax.specs.inner.Matches.{Gives};
 ghost use Rattle.vale_parser.specs.inner.Reads.{header_view};
 
@@ -105,17 +105,16 @@ fn plain_at<'a>(
     })
 }
 
-// The parts of a recursive function.
-fn parts_at<'a>(
+// What stands behind the value at zero of a recursive function.
+fn step_at<'a>(
     alloc: Global,
     header: Header,
-    tokens: &'a [Token],
+    zero: Read<'a, Expr>,
 ) -> Result<Read<'a, Decl>, MatchFault>
-    ensures { Gives (λ r. (decl_tree r.part, r.rest.now)) result (parts_at (header_view header) tokens.now) }
+    ensures { Gives (λ r. (decl_tree r.part, r.rest.now)) result (step_at (header_view header) (tree zero.entry.part, zero.entry.rest.now)) }
 {
-    let zero = asked(alloc, is_zero(peek(tokens)), tokens)?;
     let step = asked(alloc, is_step(peek(zero.rest)), zero.rest)?;
-    let rest = expect(step.rest, Mark::BraceClose)?;
+    let step = before(step, Mark::BraceClose)?;
     Ok(Read {
         part: Decl::Function(
             header.spot,
@@ -125,8 +124,20 @@ fn parts_at<'a>(
             Some(zero.part),
             step.part,
         ),
-        rest,
+        rest: step.rest,
     })
+}
+
+// The parts of a recursive function.
+fn parts_at<'a>(
+    alloc: Global,
+    header: Header,
+    tokens: &'a [Token],
+) -> Result<Read<'a, Decl>, MatchFault>
+    ensures { Gives (λ r. (decl_tree r.part, r.rest.now)) result (parts_at (header_view header) tokens.now) }
+{
+    let zero = asked(alloc, is_zero(peek(tokens)), tokens)?;
+    step_at(alloc, header, zero)
 }
 
 fn result_at<'a>(

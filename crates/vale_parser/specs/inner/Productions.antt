@@ -400,11 +400,15 @@ header s n bs t = record { spot = s; name = n; binds = bs; sort = t }
 abbrev pub plain_at : Header → List Token → Option (De × List Token)
 plain_at h ts = and_then (expression_end ts) (λ x. Some (Function h.spot h.name h.binds h.sort None x.0, x.1))
 
+-- what stands behind the value at zero of a recursive function
+abbrev pub step_at : Header → Ex × List Token → Option (De × List Token)
+step_at h x =
+    and_then (only_if (is_step (peek x.1)) (expression_end x.1)) (λ y.
+    and_then (expect mark.BraceClose y.1) (λ rest. Some (Function h.spot h.name h.binds h.sort (Some x.0) y.0, rest)))
+
 -- the parts of a recursive function, in braces
 abbrev pub parts_at : Header → List Token → Option (De × List Token)
-parts_at h ts =
-    and_then (only_if (is_zero (peek ts)) (expression_end ts)) (λ x. and_then (only_if (is_step (peek x.1)) (expression_end x.1)) (λ y.
-    and_then (expect mark.BraceClose y.1) (λ rest. Some (Function h.spot h.name h.binds h.sort (Some x.0) y.0, rest))))
+parts_at h ts = and_then (only_if (is_zero (peek ts)) (expression_end ts)) (step_at h)
 
 abbrev pub result_by : Header → Lookahead → List Token → Option (De × List Token)
 result_by h (see.Mark mark.Equals) ts = plain_at h ts
