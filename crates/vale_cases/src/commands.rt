@@ -85,11 +85,6 @@ impl Run {
             &mut self.out,
             &mut self.err,
         );
-        make_answer(
-            alloc,
-            status.code(),
-            self.out.bytes(),
-            self.err.bytes(),
-        )
+        make_answer(alloc, status.code(), self.out.bytes(), self.err.bytes())
     }
 }
