@@ -87,11 +87,9 @@ fn alike(alloc: Global, letters: &[u8]) -> Result<String> {
     Ok(format!(in alloc; "{} items, alike {count} of 6", items.len())?)
 }
 
-// `Ea|. Wc.`: two exports, one behind the other, each run beside its code.
-fn two_exports(alloc: Global, text: &[u8]) -> Result<String> {
-    let (a, b) = text.split_once_str(b" ").unwrap_or((text, b""));
-    let (a, b) = (code_of(alloc, a)?, code_of(alloc, b)?);
-    let mut all = items(alloc, 0, &a)?;
+// Two exports, one behind the other, and where the second begins.
+fn exported(alloc: Global, a: &Code, b: &Code) -> Result<(Vec<Item>, usize)> {
+    let mut all = items(alloc, 0, a)?;
     let entry = all.len();
     let labels = all
         .iter()
@@ -99,19 +97,84 @@ fn two_exports(alloc: Global, text: &[u8]) -> Result<String> {
         .count();
     let first = u32::try_from(labels)?;
     let name = Text::from_slice(alloc, b"u")?;
-    if labels_fit(first, &b) {
-        all.append(&mut lower(alloc, first, &name, &b)?)?;
+    if labels_fit(first, b) {
+        all.append(&mut lower(alloc, first, &name, b)?)?;
     }
+    Ok((all, entry))
+}
+
+// Whether both exports run as their code does.
+fn are_both_alike(alloc: Global, a: &Code, b: &Code, all: &[Item], entry: usize) -> Result<bool> {
+    for counters in [(3, 3), (0, 4), (5, 1)] {
+        if !are_alike(alloc, a, all, 0, counters)? || !are_alike(alloc, b, all, entry, counters)? {
+            return Ok(false);
+        }
+    }
+    Ok(program_ok(all))
+}
+
+// The outline of two exports, each run beside its code.
+fn beside(alloc: Global, a: &Code, b: &Code) -> Result<String> {
+    let (all, entry) = exported(alloc, a, b)?;
     let mut out = String::new(alloc);
     outline(&mut out, &all)?;
-    let mut is_alike = program_ok(&all);
-    for counters in [(3, 3), (0, 4), (5, 1)] {
-        is_alike = is_alike
-            && are_alike(alloc, &a, &all, 0, counters)?
-            && are_alike(alloc, &b, &all, entry, counters)?;
-    }
+    let is_alike = are_both_alike(alloc, a, b, &all, entry)?;
     out.push_str(if is_alike { " alike" } else { " not alike" })?;
     Ok(out)
+}
+
+// `Ea|. Wc.`: two exports, one behind the other, each run beside its code.
+fn two_exports(alloc: Global, text: &[u8]) -> Result<String> {
+    let (a, b) = text.split_once_str(b" ").unwrap_or((text, b""));
+    let a = code_of(alloc, a)?;
+    let b = code_of(alloc, b)?;
+    beside(alloc, &a, &b)
+}
+
+// The report of a run whose trace has so much room; none where the items are no program that runs.
+fn run_report(
+    alloc: Global,
+    items: &[Item],
+    m: &mut Machine,
+    steps: u64,
+    room: usize,
+) -> Result<Option<Vec<u8>>> {
+    if !program_ok(items) || !are_general(items) || !matches!(items.first(), Some(Item::Entry(_))) {
+        return Ok(None);
+    }
+    let mut trace = Trace::with_room(alloc, room)?;
+    let run = run_items(items, 0, m, steps, &mut trace);
+    Ok(Some(report_of(alloc, run, m, &trace)?))
+}
+
+// The end of a report, the blocks and what was seen.
+fn without_values(alloc: Global, report: &[u8]) -> Result<String> {
+    let mut out = String::new(alloc);
+    for (k, line) in report.lines().enumerate() {
+        if k == 0 || k > VALUES {
+            line.to_str_lossy_into(&mut out)?;
+            out.push_str("; ")?;
+        }
+    }
+    Ok(out)
+}
+
+// How a run of items from a state ends.
+fn run_from(
+    alloc: Global,
+    items: &[Item],
+    state: &[u8],
+    steps: u64,
+    room: usize,
+) -> Result<String> {
+    let lines = state.replace(alloc, b"; ", b"\n")?;
+    let Ok(mut m) = read_state(alloc, &lines) else {
+        return Ok(format!(in alloc; "no state")?);
+    };
+    match run_report(alloc, items, &mut m, steps, room)? {
+        Some(report) => without_values(alloc, &report),
+        None => Ok(format!(in alloc; "no program")?),
+    }
 }
 
 // `STEPS ROOM :f a r; STATE`: how a run of items ends whose trace has so much room, the blocks, and what was seen.
@@ -122,27 +185,25 @@ fn halted(alloc: Global, text: &[u8]) -> Result<String> {
     let steps = str::from_utf8(steps)?.parse::<u64>()?;
     let room = str::from_utf8(room)?.parse::<usize>()?;
     let items = items_of(alloc, words)?;
-    let lines = state.replace(alloc, b"; ", b"\n")?;
-    let Ok(mut m) = read_state(alloc, &lines) else {
-        return Ok(format!(in alloc; "no state")?);
-    };
-    let mut trace = Trace::with_room(alloc, room)?;
-    if !program_ok(&items)
-        || !are_general(&items)
-        || !matches!(items.first(), Some(Item::Entry(_)))
-    {
-        return Ok(format!(in alloc; "no program")?);
-    }
-    let run = run_items(&items, 0, &mut m, steps, &mut trace);
-    let report = report_of(alloc, run, &m, &trace)?;
-    let mut out = String::new(alloc);
-    for (k, line) in report.as_slice().lines().enumerate() {
-        if k == 0 || k > VALUES {
-            line.to_str_lossy_into(&mut out)?;
-            out.push_str("; ")?;
-        }
-    }
-    Ok(out)
+    run_from(alloc, &items, state, steps, room)
+}
+
+// Whether the items of a text are a program.
+fn is_program(alloc: Global, text: &[u8]) -> Result<bool> {
+    let items = items_of(alloc, text)?;
+    Ok(program_ok(&items))
+}
+
+// Whether the code of a text is the machine's.
+fn is_code(alloc: Global, text: &[u8]) -> Result<bool> {
+    let code = code_of(alloc, text)?;
+    Ok(code_ok(&code))
+}
+
+// Whether the code of a text ends without leaving its blocks.
+fn stays(alloc: Global, text: &[u8]) -> Result<bool> {
+    let code = code_of(alloc, text)?;
+    ends(alloc, &code, (0, 0))
 }
 
 /// What the crates of the machine make of a text, by a key; none where it names no reading of theirs.
@@ -150,9 +211,9 @@ pub(crate) fn machined(alloc: Global, key: &[u8], text: &[u8]) -> Result<Option<
     let out = match key {
         b"form" => form_of(alloc, text)?,
         b"conditions" => conditions(alloc, text)?,
-        b"program" => truth(alloc, program_ok(&items_of(alloc, text)?))?,
-        b"code" => truth(alloc, code_ok(&code_of(alloc, text)?))?,
-        b"stays" => truth(alloc, ends(alloc, &code_of(alloc, text)?, (0, 0))?)?,
+        b"program" => truth(alloc, is_program(alloc, text)?)?,
+        b"code" => truth(alloc, is_code(alloc, text)?)?,
+        b"stays" => truth(alloc, stays(alloc, text)?)?,
         b"lowered" => lowered(alloc, text)?,
         b"alike" => alike(alloc, text)?,
         b"exports" => two_exports(alloc, text)?,

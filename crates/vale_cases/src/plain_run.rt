@@ -229,6 +229,39 @@ pub(crate) fn ends(alloc: Global, code: &Code, counters: (u64, u64)) -> Result<b
     run_code(&mut m, code.as_slice(), &mut Log::new(alloc))
 }
 
+// What a run leaves, and whether it ended.
+#[derive(Drop)]
+struct End {
+    m: Machine,
+    log: Log,
+    is_end: bool,
+}
+
+fn end_of_items(alloc: Global, items: &[Item], entry: usize, counters: (u64, u64)) -> Result<End> {
+    let mut m = machine(alloc, counters.0, counters.1)?;
+    let mut log = Log::new(alloc);
+    let is_end = run_items(&mut m, items, entry, &mut log)?;
+    Ok(End { m, log, is_end })
+}
+
+fn end_of_code(alloc: Global, code: &Code, counters: (u64, u64)) -> Result<End> {
+    let mut m = machine(alloc, counters.0, counters.1)?;
+    let mut log = Log::new(alloc);
+    let is_end = run_code(&mut m, code.as_slice(), &mut log)?;
+    Ok(End { m, log, is_end })
+}
+
+// Whether both ended, left the same and showed the same, the first by two steps more.
+fn is_alike(flat: &End, end: &End) -> bool {
+    flat.is_end
+        && end.is_end
+        && flat.m.regs == end.m.regs
+        && flat.m.flags == end.m.flags
+        && flat.m.blocks.load8(BLOCK) == end.m.blocks.load8(BLOCK)
+        && flat.log.seen.as_slice() == end.log.seen.as_slice()
+        && flat.log.steps == end.log.steps.wrapping_add(2)
+}
+
 /// Whether the items and the code both end, from these counters, and leave the same, show the same, and the items take
 /// two steps more.
 pub(crate) fn are_alike(
@@ -238,18 +271,7 @@ pub(crate) fn are_alike(
     entry: usize,
     counters: (u64, u64),
 ) -> Result<bool> {
-    let mut flat = machine(alloc, counters.0, counters.1)?;
-    let mut seen = Log::new(alloc);
-    let end = run_items(&mut flat, items, entry, &mut seen)?;
-    let mut m = machine(alloc, counters.0, counters.1)?;
-    let mut log = Log::new(alloc);
-    let ends = run_code(&mut m, code.as_slice(), &mut log)?;
-    Ok(
-        end && ends
-            && flat.regs == m.regs
-            && flat.flags == m.flags
-            && flat.blocks.load8(BLOCK) == m.blocks.load8(BLOCK)
-            && seen.seen.as_slice() == log.seen.as_slice()
-            && seen.steps == log.steps.wrapping_add(2),
-    )
+    let flat = end_of_items(alloc, items, entry, counters)?;
+    let end = end_of_code(alloc, code, counters)?;
+    Ok(is_alike(&flat, &end))
 }
