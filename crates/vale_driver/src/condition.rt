@@ -1,6 +1,6 @@
 // The condition of a procedure: the equations of its instructions, over numbered versions of places, and what is to follow.
 
-ghost use Rattle.std.specs.Prelude.{◌≡◌, ◌<◌, ◌+◌, ◌^◌, ◌++◌, pos, true, length, map, IfOk, OnOk};
+ghost use Rattle.std.specs.Prelude.{◌≡◌, ◌<◌, ◌+◌, ◌^◌, ◌++◌, pos, true, length, map, Ok, IfOk, OnOk};
 ghost use Rattle.std.specs.List.{list_all};
 ghost use Rattle.x64_syntax.specs.declared.places.Place.{Place as APlace};
 ghost use Rattle.x64_syntax.specs.declared.places.Place.TheVariants as place;
@@ -26,6 +26,15 @@ const CARRIES_FROM: i128 = 1 << 64;
 
 const NEGATIVE_FROM: i128 = 1 << 63;
 
+// What was made so far, and what is made next. What is handed through here need not be given back by the caller where
+// memory runs out, which would make its proof dear.
+fn with<A: Drop, B: Drop>(sofar: A, next: Result<B, NoMemory>) -> Result<(A, B), NoMemory>
+    ensures { IfOk result (λ p. (p.0 ≡ sofar) × (next ≡ Ok p.1)) }
+{
+    let next = next?;
+    Ok((sofar, next))
+}
+
 fn unary(alloc: Global, op: UnOp, a: Term) -> Result<Term, NoMemory>
     ensures { IfOk result (λ t. tree t ≡ tm.Un op (tree a)) }
 {
@@ -35,7 +44,7 @@ fn unary(alloc: Global, op: UnOp, a: Term) -> Result<Term, NoMemory>
 fn binary(alloc: Global, op: BinOp, a: Term, b: Term) -> Result<Term, NoMemory>
     ensures { IfOk result (λ t. tree t ≡ tm.Bin op (tree a) (tree b)) }
 {
-    let a = Boxed::new(alloc, a)?;
+    let (b, a) = with(b, Boxed::new(alloc, a))?;
     let b = Boxed::new(alloc, b)?;
     Ok(Term::Bin(op, a, b))
 }
@@ -114,7 +123,7 @@ impl<'a> Written<'a> {
     fn register_is(&self, alloc: Global, value: Term) -> Result<Term, NoMemory>
         ensures { IfOk result (λ t. tree t ≡ tm.Bin bin.Eq (term (present_versions self.now.versions.now) (After (place.Reg self.now.d))) (tree value)) }
     {
-        let after = self.after(alloc)?;
+        let (value, after) = with(value, self.after(alloc))?;
         binary(alloc, BinOp::Eq, after, value)
     }
 
@@ -122,7 +131,7 @@ impl<'a> Written<'a> {
     fn flag_is(&self, alloc: Global, flag: FlagName, value: Term) -> Result<Term, NoMemory>
         ensures { IfOk result (λ t. tree t ≡ tm.Bin bin.Eq (term (present_versions self.now.versions.now) (After (place.Flag flag))) (tree value)) }
     {
-        let flag = self.flag(alloc, flag)?;
+        let (value, flag) = with(value, self.flag(alloc, flag))?;
         binary(alloc, BinOp::Eq, flag, value)
     }
 
@@ -131,7 +140,7 @@ impl<'a> Written<'a> {
         ensures { IfOk result (λ t. tree t ≡ term (present_versions self.now.versions.now) (sum (Before (place.Reg self.now.d)) (source s.now))) }
     {
         let before = self.before(alloc)?;
-        let source = source(alloc, self.versions, s)?;
+        let (before, source) = with(before, source(alloc, self.versions, s))?;
         binary(alloc, BinOp::Add, before, source)
     }
 
@@ -141,7 +150,7 @@ impl<'a> Written<'a> {
     {
         let before = self.before(alloc)?;
         let number = unary(alloc, UnOp::Int, before)?;
-        let source = source_number(alloc, self.versions, s)?;
+        let (number, source) = with(number, source_number(alloc, self.versions, s))?;
         binary(alloc, BinOp::Add, number, source)
     }
 
@@ -212,7 +221,7 @@ impl<'a> Written<'a> {
     {
         let before = self.before(alloc)?;
         let left = self.changed_from(alloc, before)?;
-        let right = self.changed_source(alloc, s)?;
+        let (left, right) = with(left, self.changed_source(alloc, s))?;
         binary(alloc, BinOp::And, left, right)
     }
 
@@ -228,7 +237,7 @@ impl<'a> Written<'a> {
     fn changed_from(&self, alloc: Global, from: Term) -> Result<Term, NoMemory>
         ensures { IfOk result (λ t. tree t ≡ tm.Bin bin.Xor (tree from) (term (present_versions self.now.versions.now) (After (place.Reg self.now.d)))) }
     {
-        let after = self.after(alloc)?;
+        let (from, after) = with(from, self.after(alloc))?;
         binary(alloc, BinOp::Xor, from, after)
     }
 
@@ -319,6 +328,6 @@ fn promise(alloc: Global, last: &Versions, promise: Promise) -> Result<Term, NoM
             (reg, binary(alloc, BinOp::Add, begin, Term::W64(k))?)
         }
     };
-    let end = version(alloc, Place::Reg(reg), last.register(reg))?;
+    let (wanted, end) = with(wanted, version(alloc, Place::Reg(reg), last.register(reg)))?;
     binary(alloc, BinOp::Eq, end, wanted)
 }

@@ -11,7 +11,7 @@ ghost use Rattle.vale_syntax.specs.inner.Matches.{Gives};
 ghost use Rattle.vale_parser.specs.inner.Things.{Thing, AnArg, thing_parser};
 
 use crate::clauses::asked;
-use crate::front::{Read, before, expect, expression, is_at};
+use crate::front::{Read, before, expect, expression, is_at, with};
 use crate::part::{Part, closed, separated};
 use crate::words::{is_invariant, is_name};
 use expr_parser::{after, name_of};
@@ -47,8 +47,10 @@ fn memory_at<'a>(
 ) -> Result<Read<'a, Arg>, MatchFault>
     ensures { Gives (λ r. (arg_tree r.part, r.rest.now)) result (memory_at block (tree index) tokens.now) }
 {
-    let rest = expect(tokens, Mark::RoundOpen)?;
-    let address = before(some_expressions(alloc, rest)?, Mark::RoundClose)?;
+    let front = (block, index);
+    let (front, rest) = with(front, expect(tokens, Mark::RoundOpen))?;
+    let (front, address) = with(front, some_expressions(alloc, rest))?;
+    let ((block, index), address) = with(front, before(address, Mark::RoundClose))?;
     Ok(Read {
         part: Arg::Memory(block, index, address.part),
         rest: address.rest,
@@ -147,9 +149,5 @@ pub(crate) fn test<'a>(alloc: Global, tokens: &'a [Token]) -> Result<Read<'a, Ex
     ensures { Gives (λ r. (tree r.part, r.rest.now)) result (test tokens.now) }
 {
     let rest = expect(tokens, Mark::RoundOpen)?;
-    let found = expression(alloc, rest)?;
-    Ok(Read {
-        part: found.part,
-        rest: expect(found.rest, Mark::RoundClose)?,
-    })
+    before(expression(alloc, rest)?, Mark::RoundClose)
 }

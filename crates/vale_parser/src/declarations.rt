@@ -10,7 +10,7 @@ ghost use Rattle.vale_parser.specs.inner.Reads.{header_view};
 
 use crate::arguments::expressions;
 use crate::clauses::{asked, clauses, expression_end, lemma_clauses};
-use crate::front::{Read, before, expect, name};
+use crate::front::{Read, before, expect, name, with};
 use crate::parameters::{binds, parameters};
 use crate::words::{is_step, is_zero, sort_behind};
 use crate::{lemma_statements, statements};
@@ -113,15 +113,16 @@ fn step_at<'a>(
 ) -> Result<Read<'a, Decl>, MatchFault>
     ensures { Gives (λ r. (decl_tree r.part, r.rest.now)) result (step_at (header_view header) (tree zero.entry.part, zero.entry.rest.now)) }
 {
-    let step = asked(alloc, is_step(peek(zero.rest)), zero.rest)?;
-    let step = before(step, Mark::BraceClose)?;
+    let front = (header, zero.part);
+    let (front, step) = with(front, asked(alloc, is_step(peek(zero.rest)), zero.rest))?;
+    let ((header, zero), step) = with(front, before(step, Mark::BraceClose))?;
     Ok(Read {
         part: Decl::Function(
             header.spot,
             header.name,
             header.binds,
             header.sort,
-            Some(zero.part),
+            Some(zero),
             step.part,
         ),
         rest: step.rest,
@@ -136,7 +137,7 @@ fn parts_at<'a>(
 ) -> Result<Read<'a, Decl>, MatchFault>
     ensures { Gives (λ r. (decl_tree r.part, r.rest.now)) result (parts_at (header_view header) tokens.now) }
 {
-    let zero = asked(alloc, is_zero(peek(tokens)), tokens)?;
+    let (header, zero) = with(header, asked(alloc, is_zero(peek(tokens)), tokens))?;
     step_at(alloc, header, zero)
 }
 

@@ -1,6 +1,6 @@
 // What is read off the front of a list of tokens.
 
-ghost use Rattle.std.specs.Prelude.{◌≡◌, IfOk};
+ghost use Rattle.std.specs.Prelude.{◌≡◌, IfOk, IfErr, Ok, Err};
 ghost use Rattle.std.specs.List.{list_all};
 ghost use Rattle.vale_syntax.specs.Peek.{peek};
 ghost use Rattle.vale_syntax.specs.inner.CodeTrees.{tree};
@@ -37,6 +37,19 @@ pub(crate) fn expect(tokens: &[Token], mark: Mark) -> Result<&[Token], MatchFaul
     } else {
         Err(MatchFault::NoMatch)
     }
+}
+
+/// What was read so far, and what was read behind it. What is handed through here need not be given back by the caller
+/// where the second fails, which would make its proof dear.
+pub(crate) fn with<A: Drop, B: Drop>(
+    sofar: A,
+    found: Result<B, MatchFault>,
+) -> Result<(A, B), MatchFault>
+    ensures ok { IfOk result (λ p. (p.0 ≡ sofar) × (found ≡ Ok p.1)) }
+    ensures err { IfErr result (λ e. found ≡ Err e) }
+{
+    let found = found?;
+    Ok((sofar, found))
 }
 
 /// What was read, where a mark stands behind it.

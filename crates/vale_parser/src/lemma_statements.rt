@@ -10,7 +10,7 @@ ghost use Rattle.vale_parser.specs.inner.Reads.{lstatement_view, lbody_view, lel
 
 use crate::arguments::{expressions, test};
 use crate::clauses::expression_end;
-use crate::front::{before, expect, is_at};
+use crate::front::{before, expect, is_at, with};
 use crate::words::is_else;
 use expr_parser::{after, name_of, spot_of};
 use sqlite_items::Items;
@@ -104,9 +104,9 @@ fn statement_of<'a>(
         }
         Lookahead::Keyword(Keyword::If) => {
             let test = test(alloc, after(tokens, 1))?;
-            let arms = arms(alloc, test.rest, below)?;
+            let (test, arms) = with(test.part, arms(alloc, test.rest, below))?;
             Ok(LemmaStated {
-                tree: LemmaStmt::If(spot, test.part, arms.first, arms.second),
+                tree: LemmaStmt::If(spot, test, arms.first, arms.second),
                 height: arms.height,
                 rest: arms.rest,
             })

@@ -12,7 +12,7 @@ ghost use Rattle.vale_parser.specs.inner.Reads.{statement_view, body_view, else_
 
 use crate::arguments::{arguments, invariants, test};
 use crate::clauses::{asked, expression_end};
-use crate::front::{Read, before, expect, expression, is_at, name};
+use crate::front::{Read, before, expect, expression, is_at, name, with};
 use crate::words::{is_decreases, is_else, is_if, sort_behind};
 use expr_parser::{after, name_of, spot_of};
 use sqlite_items::Items;
@@ -66,9 +66,11 @@ fn call_at<'a>(alloc: Global, tokens: &'a [Token]) -> Result<Read<'a, Stmt>, Mat
 fn assign_at<'a>(alloc: Global, tokens: &'a [Token]) -> Result<Read<'a, Stmt>, MatchFault>
     ensures { Gives (λ r. (stmt_tree r.part, r.rest.now)) result (assign_at tokens.now) }
 {
-    let found = before(expression(alloc, after(tokens, 2))?, Mark::Semicolon)?;
+    let name = name_of(alloc, tokens)?;
+    let (name, found) = with(name, expression(alloc, after(tokens, 2)))?;
+    let (name, found) = with(name, before(found, Mark::Semicolon))?;
     Ok(Read {
-        part: Stmt::Assign(name_of(alloc, tokens)?, found.part),
+        part: Stmt::Assign(name, found.part),
         rest: found.rest,
     })
 }
@@ -77,11 +79,12 @@ fn ghost_at<'a>(alloc: Global, tokens: &'a [Token]) -> Result<Read<'a, Stmt>, Ma
     ensures { Gives (λ r. (stmt_tree r.part, r.rest.now)) result (ghost_statement tokens.now) }
 {
     let name = name(alloc, after(tokens, 1))?;
-    let sort = sort_behind(name.rest)?;
-    let rest = expect(sort.rest, Mark::Equals)?;
-    let found = before(expression(alloc, rest)?, Mark::Semicolon)?;
+    let (name, sort) = with(name.part, sort_behind(name.rest))?;
+    let (name, rest) = with(name, expect(sort.rest, Mark::Equals))?;
+    let (name, found) = with(name, expression(alloc, rest))?;
+    let (name, found) = with(name, before(found, Mark::Semicolon))?;
     Ok(Read {
-        part: Stmt::Ghost(spot_of(tokens), name.part, sort.part, found.part),
+        part: Stmt::Ghost(spot_of(tokens), name, sort.part, found.part),
         rest: found.rest,
     })
 }
@@ -148,9 +151,9 @@ fn statement_of<'a>(alloc: Global, tokens: &'a [Token], below: u8) -> Result<Sta
     match peek(tokens) {
         Lookahead::Keyword(Keyword::If) => {
             let test = test(alloc, after(tokens, 1))?;
-            let arms = arms(alloc, test.rest, below)?;
+            let (test, arms) = with(test.part, arms(alloc, test.rest, below))?;
             Ok(Stated {
-                tree: Stmt::If(spot, test.part, arms.first, arms.second),
+                tree: Stmt::If(spot, test, arms.first, arms.second),
                 height: arms.height,
                 rest: arms.rest,
             })
@@ -161,9 +164,9 @@ fn statement_of<'a>(alloc: Global, tokens: &'a [Token], below: u8) -> Result<Sta
         }
         Lookahead::Keyword(Keyword::Inline) => {
             let test = inline_test(alloc, tokens)?;
-            let arms = arms(alloc, test.rest, below)?;
+            let (test, arms) = with(test.part, arms(alloc, test.rest, below))?;
             Ok(Stated {
-                tree: Stmt::InlineIf(spot, test.part, arms.first, arms.second),
+                tree: Stmt::InlineIf(spot, test, arms.first, arms.second),
                 height: arms.height,
                 rest: arms.rest,
             })
@@ -191,11 +194,14 @@ fn loop_at<'a>(
     ensures found { Gives statement_view result (loop_at (statement below) spot (tree test.entry.part, test.entry.rest.now)) }
     ensures shallow { IfOk result (λ s. s.height ≤ suc below) }
 {
-    let invariants = invariants(alloc, test.rest)?;
-    let measure = asked(alloc, is_decreases(peek(invariants.rest)), invariants.rest)?;
-    let body = block(alloc, measure.rest, below)?;
+    let (test, invariants) = with(test.part, invariants(alloc, test.rest))?;
+    let front = (test, invariants.part);
+    let measure = asked(alloc, is_decreases(peek(invariants.rest)), invariants.rest);
+    let (front, measure) = with(front, measure)?;
+    let front = (front, measure.part);
+    let (((test, invariants), measure), body) = with(front, block(alloc, measure.rest, below))?;
     Ok(Stated {
-        tree: Stmt::While(spot, test.part, invariants.part, measure.part, body.trees),
+        tree: Stmt::While(spot, test, invariants, measure, body.trees),
         height: body.height + 1,
         rest: body.rest,
     })
