@@ -20,7 +20,12 @@ each() {
 {
     printf '.text\n.globl every_form\nevery_form:\n'
     each '%rcx, %rax' movq imulq adcxq adoxq
-    each '0(%rsi), %rax' movq imulq adcxq
+    each '0(%rsi), %rax' movq imulq adcxq movzbq
+    each '-8(%rsi,%rcx,8), %r15' movzbq
+    each '4(%rsi), %eax' movl
+    each '4(%rsi,%rcx,2), %r15d' movl
+    each '%r10d, 2147483647(%rdi)' movl
+    each '%ebp, 0(%rdi,%r8,1)' movl
     each '%rax, 0(%rsi)' movq
     each '-8(%rsi,%rcx,8), %rax' movq leaq adoxq
     each '%r10, 2147483647(%rdi,%r8,1)' movq
@@ -38,7 +43,10 @@ each() {
     done
     each '%rcx, %r10, %rax' mulxq
     each '24(%rsi), %r10, %rax' mulxq
-    each '%xmm12, %xmm0' movdqu pxor pand por paddd paddq pshufb punpcklqdq punpckhqdq
+    each '%xmm12, %xmm0' movdqu pxor pand por paddd paddq pshufb punpcklqdq punpckhqdq aesenc aesenclast
+    for choice in 0 1 16 17; do
+        each "\$$choice, %xmm12, %xmm0" pclmulqdq
+    done
     each '0(%rsi), %xmm0' movdqu
     each '%xmm12, 0(%rdi)' movdqu
     each '$255, %xmm12, %xmm0' pshufd

@@ -9,7 +9,7 @@ use Rattle.std.specs.Int.Signed.{le_z_yes}
 use Rattle.x64_syntax.specs.declared.operands.Opr.{Opr}
 use Rattle.x64_syntax.specs.declared.operands.Opr.TheVariants.{R, Imm, M}
 use Rattle.x64_syntax.specs.declared.instructions.Ins.{Ins}
-use Rattle.x64_syntax.specs.declared.instructions.Ins.TheVariants.{Mov, Store, Lea, Cmov, Push, Pop, Alu, One as OneIns, Shift, Imul, Mul, Mulx, Carry, XMov, XLoad, XStore, XBin, XShuf, XShift, XIns, XExt, XMovq}
+use Rattle.x64_syntax.specs.declared.instructions.Ins.TheVariants.{Mov, Store, Load1, Load4, Store4, Lea, Cmov, Push, Pop, Alu, One as OneIns, Shift, Imul, Mul, Mulx, Carry, XMov, XLoad, XStore, XBin, XShuf, XShift, XIns, XExt, XMovq, XClmul}
 use Rattle.x64_syntax.specs.declared.operations.Operation.{Operation}
 use Rattle.x64_syntax.specs.Numbers.{word_of}
 use Rattle.x64_syntax.specs.Ranges.{is_around_zero, is_u8}
@@ -74,6 +74,9 @@ move_source_back (M m) h = refl
 pub made_again : (i : Ins) → FieldsFit i → instruction (operation i) (operands i) ≡ Some i
 made_again (Mov d s) h = ap (λ o. option_map (Mov d) o) (move_source_back s h)
 made_again (Store m s) h = refl
+made_again (Load1 d m) h = refl
+made_again (Load4 d m) h = refl
+made_again (Store4 m s) h = refl
 made_again (Lea d m) h = refl
 made_again (Cmov c d s) h = refl
 made_again (Push s) h = refl
@@ -94,6 +97,7 @@ made_again (XShift o d n) h = ap (λ x. option_map (XShift o d) x) (byte_back n 
 made_again (XIns d s n) h = ap (λ x. option_map (XIns d s) x) (byte_back n h)
 made_again (XExt d s n) h = ap (λ x. option_map (XExt d s) x) (byte_back n h)
 made_again (XMovq d s) h = refl
+made_again (XClmul d s n) h = ap (λ x. option_map (XClmul d s) x) (byte_back n h)
 
 pub only_instruction : (o : Operation) (ps : Parts) (i : Ins) → FieldsFit i → operation i ≡ o → operands i ≡ ps → instruction o ps ≡ Some i
 only_instruction o ps i h e f = ap (λ x. instruction x ps) (sym e) ∙ ap (instruction (operation i)) (sym f) ∙ made_again i h

@@ -9,7 +9,7 @@ use Rattle.x64_syntax.specs.declared.items.Item.TheVariants as item
 use Rattle.x64_syntax.specs.Places.{reg_name, xmm_name}
 use Rattle.x64_syntax.specs.Operations.{operation_name}
 use Rattle.asm_lines.specs.declared.forms.Part.{Part}
-use Rattle.asm_lines.specs.declared.forms.Part.TheVariants.{General, Wide, Number, Memory}
+use Rattle.asm_lines.specs.declared.forms.Part.TheVariants.{General, Low, Wide, Number, Memory}
 use Rattle.asm_lines.specs.declared.forms.Parts.{Parts}
 use Rattle.asm_lines.specs.declared.forms.Parts.TheVariants.{One, Two, Three}
 use Rattle.asm_lines.specs.Operands.{operands, operation}
@@ -25,6 +25,7 @@ memory_text m = codes "(" ++ reg_name m.base ++ index_text m.index ++ codes ", "
 
 abbrev pub part_text : Part → List ℕ
 part_text (General r) = reg_name r
+part_text (Low r) = reg_name r
 part_text (Wide x) = xmm_name x
 part_text (Number z) = signed_decimal z
 part_text (Memory m) = memory_text m

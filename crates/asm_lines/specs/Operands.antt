@@ -3,12 +3,12 @@ use Rattle.std.specs.Prelude.{pos}
 use Rattle.x64_syntax.specs.declared.operands.Opr.{Opr}
 use Rattle.x64_syntax.specs.declared.operands.Opr.TheVariants.{R, Imm, M}
 use Rattle.x64_syntax.specs.declared.instructions.Ins.{Ins}
-use Rattle.x64_syntax.specs.declared.instructions.Ins.TheVariants.{Mov, Store, Lea, Cmov, Push, Pop, Alu, One as OneIns, Shift, Imul, Mul, Mulx, Carry, XMov, XLoad, XStore, XBin, XShuf, XShift, XIns, XExt, XMovq}
+use Rattle.x64_syntax.specs.declared.instructions.Ins.TheVariants.{Mov, Store, Load1, Load4, Store4, Lea, Cmov, Push, Pop, Alu, One as OneIns, Shift, Imul, Mul, Mulx, Carry, XMov, XLoad, XStore, XBin, XShuf, XShift, XIns, XExt, XMovq, XClmul}
 use Rattle.x64_syntax.specs.declared.operations.Operation.{Operation}
 use Rattle.x64_syntax.specs.declared.operations.Operation.TheVariants as op
 use Rattle.x64_syntax.specs.Numbers.{word_of}
 use Rattle.asm_lines.specs.declared.forms.Part.{Part}
-use Rattle.asm_lines.specs.declared.forms.Part.TheVariants.{General, Wide, Number, Memory}
+use Rattle.asm_lines.specs.declared.forms.Part.TheVariants.{General, Low, Wide, Number, Memory}
 use Rattle.asm_lines.specs.declared.forms.Parts.{Parts}
 use Rattle.asm_lines.specs.declared.forms.Parts.TheVariants.{One, Two, Three}
 
@@ -25,6 +25,9 @@ move_source s = source s
 abbrev pub operands : Ins → Parts
 operands (Mov d s) = Two (General d) (move_source s)
 operands (Store m s) = Two (Memory m) (General s)
+operands (Load1 d m) = Two (General d) (Memory m)
+operands (Load4 d m) = Two (Low d) (Memory m)
+operands (Store4 m s) = Two (Memory m) (Low s)
 operands (Lea d m) = Two (General d) (Memory m)
 operands (Cmov c d s) = Two (General d) (General s)
 operands (Push s) = One (General s)
@@ -45,11 +48,15 @@ operands (XShift o d n) = Two (Wide d) (Number (pos n))
 operands (XIns d s n) = Three (Wide d) (General s) (Number (pos n))
 operands (XExt d s n) = Three (General d) (Wide s) (Number (pos n))
 operands (XMovq d s) = Two (Wide d) (General s)
+operands (XClmul d s n) = Three (Wide d) (Wide s) (Number (pos n))
 
 -- what an instruction is by its name
 abbrev pub operation : Ins → Operation
 operation (Mov d s) = op.Mov
 operation (Store m s) = op.Store
+operation (Load1 d m) = op.Load1
+operation (Load4 d m) = op.Load4
+operation (Store4 m s) = op.Store4
 operation (Lea d m) = op.Lea
 operation (Cmov c d s) = op.Cmov c
 operation (Push s) = op.Push
@@ -70,3 +77,4 @@ operation (XShift o d n) = op.XShift o
 operation (XIns d s n) = op.XIns
 operation (XExt d s n) = op.XExt
 operation (XMovq d s) = op.XMovq
+operation (XClmul d s n) = op.XClmul

@@ -6,7 +6,7 @@ ghost use Rattle.x64_syntax.specs.inner.Fields.{FieldsFit};
 ghost use Rattle.asm_lines.specs.declared.forms.Part.TheVariants as part;
 ghost use Rattle.asm_lines.specs.declared.forms.Parts.TheVariants as parts;
 ghost use Rattle.asm_lines.specs.Operands.{source, move_source, operands as operands_of, operation as operation_of};
-ghost use Rattle.asm_lines.specs.inner.Assembled.{at_most, within, of_source, of_move_source, of_one, of_general, of_wide, of_memory, of_two, of_three, instruction};
+ghost use Rattle.asm_lines.specs.inner.Assembled.{at_most, within, of_source, of_move_source, of_one, of_general, of_low, of_wide, of_memory, of_two, of_three, instruction};
 
 use x64_syntax::{Ins, Mem, Operation, Opr, Reg, Xmm};
 
@@ -14,6 +14,8 @@ use x64_syntax::{Ins, Mem, Operation, Opr, Reg, Xmm};
 #[derive(Clone, Copy, Debug, PartialEq, Eq)]
 pub enum Part {
     General(Reg),
+    /// The lower half of a register, of 32 bits.
+    Low(Reg),
     Wide(Xmm),
     Number(i128),
     Memory(Mem),
@@ -60,7 +62,9 @@ pub fn operands(ins: &Ins) -> Parts
     match *ins {
         Ins::Mov { d, s } => Parts::Two(Part::General(d), move_source(s)),
         Ins::Store { m, s } => Parts::Two(Part::Memory(m), Part::General(s)),
-        Ins::Lea { d, m } => Parts::Two(Part::General(d), Part::Memory(m)),
+        Ins::Load1 { d, m } | Ins::Lea { d, m } => { Parts::Two(Part::General(d), Part::Memory(m)) }
+        Ins::Load4 { d, m } => Parts::Two(Part::Low(d), Part::Memory(m)),
+        Ins::Store4 { m, s } => Parts::Two(Part::Memory(m), Part::Low(s)),
         Ins::Cmov { d, s, .. } => Parts::Two(Part::General(d), Part::General(s)),
         Ins::Push { s } => Parts::One(Part::General(s)),
         Ins::Pop { d } | Ins::One { d, .. } => Parts::One(Part::General(d)),
@@ -73,7 +77,11 @@ pub fn operands(ins: &Ins) -> Parts
         Ins::XMov { d, s } | Ins::XBin { d, s, .. } => { Parts::Two(Part::Wide(d), Part::Wide(s)) }
         Ins::XLoad { d, m } => Parts::Two(Part::Wide(d), Part::Memory(m)),
         Ins::XStore { m, s } => Parts::Two(Part::Memory(m), Part::Wide(s)),
-        Ins::XShuf { d, s, n } => Parts::Three(Part::Wide(d), Part::Wide(s), count(n)),
+        Ins::XShuf { d, s, n } | Ins::XClmul { d, s, n } => Parts::Three(
+            Part::Wide(d),
+            Part::Wide(s),
+            count(n),
+        ),
         Ins::XShift { d, n, .. } => Parts::Two(Part::Wide(d), count(n)),
         Ins::XIns { d, s, n } => Parts::Three(Part::Wide(d), Part::General(s), count(n)),
         Ins::XExt { d, s, n } => Parts::Three(Part::General(d), Part::Wide(s), count(n)),
@@ -88,6 +96,9 @@ pub fn operation(ins: &Ins) -> Operation
     match *ins {
         Ins::Mov { .. } => Operation::Mov,
         Ins::Store { .. } => Operation::Store,
+        Ins::Load1 { .. } => Operation::Load1,
+        Ins::Load4 { .. } => Operation::Load4,
+        Ins::Store4 { .. } => Operation::Store4,
         Ins::Lea { .. } => Operation::Lea,
         Ins::Cmov { c, .. } => Operation::Cmov(c),
         Ins::Push { .. } => Operation::Push,
@@ -106,6 +117,7 @@ pub fn operation(ins: &Ins) -> Operation
         Ins::XIns { .. } => Operation::XIns,
         Ins::XExt { .. } => Operation::XExt,
         Ins::XMovq { .. } => Operation::XMovq,
+        Ins::XClmul { .. } => Operation::XClmul,
     }
 }
 
@@ -124,7 +136,7 @@ fn of_source(part: Part) -> Option<Opr>
         Part::General(reg) => Some(Opr::R(reg)),
         Part::Number(n) => Some(Opr::Imm(i64::try_from(n).ok()?)),
         Part::Memory(m) => Some(Opr::M(m)),
-        Part::Wide(_) => None,
+        Part::Low(_) | Part::Wide(_) => None,
     }
 }
 
@@ -134,7 +146,7 @@ fn of_move_source(part: Part) -> Option<Opr>
 {
     match part {
         Part::Number(n) => Some(Opr::Imm(u64::try_from(n).ok()?.cast_signed())),
-        Part::General(_) | Part::Memory(_) | Part::Wide(_) => of_source(part),
+        Part::General(_) | Part::Memory(_) | Part::Low(_) | Part::Wide(_) => of_source(part),
     }
 }
 
@@ -160,6 +172,7 @@ fn of_general(operation: Operation, d: Reg, s: Part) -> Option<Ins>
             d,
             s: of_move_source(s)?,
         }),
+        (Operation::Load1, Part::Memory(m)) => Some(Ins::Load1 { d, m }),
         (Operation::Lea, Part::Memory(m)) => Some(Ins::Lea { d, m }),
         (Operation::Cmov(c), Part::General(s)) => Some(Ins::Cmov { c, d, s }),
         (Operation::Alu(op), s) => Some(Ins::Alu {
@@ -177,6 +190,16 @@ fn of_general(operation: Operation, d: Reg, s: Part) -> Option<Ins>
             d,
             s: of_source(s)?,
         }),
+        _ => None,
+    }
+}
+
+fn of_low(operation: Operation, d: Reg, s: Part) -> Option<Ins>
+    ensures found { IfSome result (λ i. (operation_of i ≡ operation) × (operands_of i ≡ parts.Two (part.Low d) s)) }
+    ensures same { result ≡ of_low operation d s }
+{
+    match (operation, s) {
+        (Operation::Load4, Part::Memory(m)) => Some(Ins::Load4 { d, m }),
         _ => None,
     }
 }
@@ -201,6 +224,7 @@ fn of_memory(operation: Operation, m: Mem, s: Part) -> Option<Ins>
 {
     match (operation, s) {
         (Operation::Store, Part::General(s)) => Some(Ins::Store { m, s }),
+        (Operation::Store4, Part::Low(s)) => Some(Ins::Store4 { m, s }),
         (Operation::Movdqu, Part::Wide(s)) => Some(Ins::XStore { m, s }),
         _ => None,
     }
@@ -212,6 +236,7 @@ fn of_two(operation: Operation, d: Part, s: Part) -> Option<Ins>
 {
     match d {
         Part::General(d) => of_general(operation, d, s),
+        Part::Low(d) => of_low(operation, d, s),
         Part::Wide(d) => of_wide(operation, d, s),
         Part::Memory(m) => of_memory(operation, m, s),
         Part::Number(_) => None,
@@ -230,6 +255,9 @@ fn of_three(operation: Operation, d: Part, a: Part, b: Part) -> Option<Ins>
         }),
         (Operation::XShuf, Part::Wide(d), Part::Wide(s), Part::Number(n)) => {
             Some(Ins::XShuf { d, s, n: byte(n)? })
+        }
+        (Operation::XClmul, Part::Wide(d), Part::Wide(s), Part::Number(n)) => {
+            Some(Ins::XClmul { d, s, n: byte(n)? })
         }
         (Operation::XIns, Part::Wide(d), Part::General(s), Part::Number(n)) => {
             Some(Ins::XIns { d, s, n: byte(n)? })

@@ -74,7 +74,7 @@ fn push_part(out: &mut Vec<u8>, part: Part) -> Result<(), NoMemory>
     ensures { OnOk result (out.new.items ≡ out.old.items ++ part_text part) }
 {
     match part {
-        Part::General(reg) => push(out, reg.name()),
+        Part::General(reg) | Part::Low(reg) => push(out, reg.name()),
         Part::Wide(xmm) => push(out, xmm.name()),
         Part::Number(n) => push_number(out, n),
         Part::Memory(m) => push_memory(out, m),

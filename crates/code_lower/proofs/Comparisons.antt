@@ -6,7 +6,7 @@ use Rattle.std.proofs.Math.Nat.{add-mod_right}
 use Rattle.std.proofs.lemmas.Nat.{mod_below}
 use Rattle.std.proofs.lemmas.Bool.Decides.{leb_tells, eqb_tells}
 use Rattle.x64_syntax.specs.declared.places.Reg.{Reg as GeneralReg}
-use Rattle.x64_syntax.specs.declared.places.Place.TheVariants.{Reg}
+use Rattle.x64_syntax.specs.declared.places.MachinePlace.TheVariants.{Reg}
 use Rattle.x64_syntax.specs.declared.places.FlagName.TheVariants.{Cf, Zf}
 use Rattle.x64_syntax.specs.declared.operands.Opr.{Opr}
 use Rattle.x64_syntax.specs.declared.operands.Opr.TheVariants.{R, Imm, M}

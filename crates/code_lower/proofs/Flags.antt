@@ -2,8 +2,8 @@
 use Rattle.std.proofs.Common.{◌≡◌, ℕ, List, [], ◌∷◌, length, ◌∙◌}
 use Rattle.std.specs.Prelude.{Option, Some, None}
 use Rattle.std.proofs.lemmas.List.{length-set}
-use Rattle.x64_syntax.specs.declared.places.Place.{Place}
-use Rattle.x64_syntax.specs.declared.places.Place.TheVariants.{Reg, Xmm, Flag}
+use Rattle.x64_syntax.specs.declared.places.MachinePlace.{MachinePlace}
+use Rattle.x64_syntax.specs.declared.places.MachinePlace.TheVariants.{Reg, Xmm, Flag}
 use Rattle.x64_syntax.specs.declared.places.FlagName.{FlagName}
 use Rattle.x64_syntax.specs.Places.{flag_number}
 use Rattle.x64_syntax.specs.declared.instructions.Ins.{Ins}
@@ -12,13 +12,13 @@ use Rattle.x64_blocks.specs.Memory.{Range, store}
 use Rattle.term_core.specs.Value.{Val, whole}
 use Rattle.x64_meaning.specs.State.{State, write, load, flag_from}
 use Rattle.x64_meaning.specs.Exp.{no_words}
-use Rattle.x64_meaning.specs.Table.{Equation, apply, equations, reads, stored_words}
-use Rattle.x64_meaning.specs.Run.{Outcome, Done, Faulted, Access, No, Loads, Stores, does, with_flags, with_access, with_loaded, with_stored, after_stack, access, first_undefined, word_in, bytes_of}
+use Rattle.x64_meaning.specs.Table.{Equation, apply, equations, reads, store_size}
+use Rattle.x64_meaning.specs.Run.{Outcome, Done, Faulted, Access, No, Loads, Stores, does, with_flags, with_access, with_loaded, with_stored, after_stack, access, first_undefined, word_in, stored_bytes}
 
 abbrev pub Four : State → Type 0
 Four s = length s.flags ≡ 4
 
-write_four : (s : State) (p : Place) (v : Val) → Four s → Four (write s p v)
+write_four : (s : State) (p : MachinePlace) (v : Val) → Four s → Four (write s p v)
 write_four s (Reg r) v h = h
 write_four s (Xmm x) v h = h
 write_four s (Flag f) v h = length-set s.flags (flag_number f) (flag_from (whole v)) ∙ h
@@ -51,7 +51,7 @@ module _ (i : Ins) (s : State) (h : Four s) where
   by_access : (x : Access) → LeavesFour (with_access s i x)
   by_access No = after_four no_words
   by_access (Loads a size) = by_load a size (load s a size)
-  by_access (Stores a) = by_store a (length (bytes_of s (stored_words i))) (store s.blocks a (bytes_of s (stored_words i)))
+  by_access (Stores a) = by_store a (store_size i) (store s.blocks a (stored_bytes s i))
 
   by_flag : (o : Option FlagName) → LeavesFour (with_flags s i o)
   by_flag None = by_access (access s i)

@@ -1,7 +1,7 @@
 -- Runs of structured code in which each access stays in the block that its operand names.
-use Rattle.std.specs.Prelude.{ℕ, zero, suc, ◌==◌, nat_lt, nat_le, length, Bool, true, false, not, [], ◌∷◌, Option, Some, None, position, if◌then◌else◌}
+use Rattle.std.specs.Prelude.{ℕ, zero, suc, ◌==◌, nat_lt, nat_le, Bool, true, false, not, [], ◌∷◌, Option, Some, None, position, if◌then◌else◌}
 use Rattle.x64_syntax.specs.declared.places.Reg.{Reg as GeneralReg}
-use Rattle.x64_syntax.specs.declared.places.Place.TheVariants.{Reg}
+use Rattle.x64_syntax.specs.declared.places.MachinePlace.TheVariants.{Reg}
 use Rattle.x64_syntax.specs.declared.operands.Opr.{Opr}
 use Rattle.x64_syntax.specs.declared.operands.Opr.TheVariants.{R, Imm, M}
 use Rattle.x64_syntax.specs.declared.conditions.Cmp.{Cmp}
@@ -13,8 +13,8 @@ use Rattle.x64_blocks.specs.Memory.{holds}
 use Rattle.term_core.specs.Value.{word, word_of}
 use Rattle.x64_meaning.specs.declared.machine.Obs.TheVariants.{Branch}
 use Rattle.x64_meaning.specs.State.{State, read}
-use Rattle.x64_meaning.specs.Table.{stored_words}
-use Rattle.x64_meaning.specs.Run.{Way, next_way, Outcome, does, Access, No, Loads, Stores, access, bytes_of}
+use Rattle.x64_meaning.specs.Table.{store_size}
+use Rattle.x64_meaning.specs.Run.{Way, next_way, Outcome, does, Access, No, Loads, Stores, access}
 use Rattle.x64_meaning.specs.Run as run
 use Rattle.code_lower.specs.Lowered.{compare}
 
@@ -28,7 +28,7 @@ pub data Course : Type 0 where
 abbrev pub extent : State → Ins → Access → Option (ℕ × ℕ)
 extent s i No = None
 extent s i (Loads a size) = Some (a, size)
-extent s i (Stores a) = Some (a, length (bytes_of s (stored_words i)))
+extent s i (Stores a) = Some (a, store_size i)
 
 -- the block that is named: the operand's, and for PUSH and POP the stack
 abbrev pub access_block : ℕ → Ins → Option ℕ → Option ℕ

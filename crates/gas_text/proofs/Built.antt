@@ -7,11 +7,11 @@ use Rattle.x64_syntax.specs.declared.operands.Mem.{Mem}
 use Rattle.x64_syntax.specs.declared.operands.Opr.{Opr}
 use Rattle.x64_syntax.specs.declared.operands.Opr.TheVariants.{R, Imm, M}
 use Rattle.x64_syntax.specs.declared.instructions.Ins.{Ins}
-use Rattle.x64_syntax.specs.declared.instructions.Ins.TheVariants.{Mov, Store, Lea, Cmov, Push, Pop, Alu, One as OneIns, Shift, Imul, Mul, Mulx, Carry, XMov, XLoad, XStore, XBin, XShuf, XShift, XIns, XExt, XMovq}
+use Rattle.x64_syntax.specs.declared.instructions.Ins.TheVariants.{Mov, Store, Load1, Load4, Store4, Lea, Cmov, Push, Pop, Alu, One as OneIns, Shift, Imul, Mul, Mulx, Carry, XMov, XLoad, XStore, XBin, XShuf, XShift, XIns, XExt, XMovq, XClmul}
 use Rattle.x64_syntax.specs.declared.forms.FormFault.TheVariants.{Immediate, Count, Scale, Register, SameHighLow}
 use Rattle.x64_syntax.specs.Numbers.{word_of}
 use Rattle.x64_syntax.specs.Ranges.{is_around_zero, is_i32, is_u8}
-use Rattle.x64_syntax.specs.Instructions.{constant_passes, no_constant, source_memory, or_else, displacement_fits, has_scale, is_scale, constant_fits, count_fits, addresses, names_rsp, halves_differ, form_of}
+use Rattle.x64_syntax.specs.Instructions.{constant_passes, no_constant, source_memory, or_else, displacement_fits, has_scale, is_scale, constant_fits, chooses_words, count_fits, addresses, names_rsp, halves_differ, form_of}
 use Rattle.x64_syntax.specs.inner.Fields.{scale_fits, memory_fits, source_fits, FieldsFit}
 use Rattle.asm_lines.specs.Operands.{source, move_source, operands, operation}
 use Rattle.asm_lines.specs.inner.Assembled.{at_most, instruction}
@@ -37,6 +37,15 @@ memory_fit m d s = and_from (is_i32 m.disp) _ d (by_index m.index s) where
 
 byte_fit : (n high : ℕ) → high ≤ 255 → nat_le n high ≡ true → is_u8 n ≡ true
 byte_fit n high le h = let below = leb-true n high h in le-leb n 255 (omega (arith, below, le))
+
+choice_fit : (n : ℕ) → chooses_words n ≡ true → is_u8 n ≡ true
+choice_fit n h = by_tests (n == 0) (n == 1) (n == 16) (n == 17) (eqb-true n 0) (eqb-true n 1) (eqb-true n 16) (eqb-true n 17) h where
+  by_tests : (a b c d : Bool) → (a ≡ true → n ≡ 0) → (b ≡ true → n ≡ 1) → (c ≡ true → n ≡ 16) → (d ≡ true → n ≡ 17) → ((a || b) || (c || d)) ≡ true → is_u8 n ≡ true
+  by_tests true b c d one two three four h = ap is_u8 (one refl)
+  by_tests false true c d one two three four h = ap is_u8 (two refl)
+  by_tests false false true d one two three four h = ap is_u8 (three refl)
+  by_tests false false false true one two three four h = ap is_u8 (four refl)
+  by_tests false false false false one two three four h = absurd (false≢true h)
 
 -- what a form says of a source
 source_fit : (n : ℕ) (s : Opr) → 0 < n → n ≤ 2 ^ 63 → constant_passes (is_around_zero n) s ≡ true → displacement_fits (source_memory s) ≡ true → has_scale (source_memory s) ≡ true → source_fits s ≡ true
@@ -79,6 +88,9 @@ fields_fit_of (Mov d s) h =
     let f = formed (Mov d s) h in
     source_fit (2 ^ 63) s (omega arith) (omega arith) f.constant (loaded displacement_fits s f.displaced) (loaded has_scale s f.scaled_)
 fields_fit_of (Store m s) h = let f = formed (Store m s) h in memory_fit m f.displaced f.scaled_
+fields_fit_of (Load1 d m) h = let f = formed (Load1 d m) h in memory_fit m f.displaced f.scaled_
+fields_fit_of (Load4 d m) h = let f = formed (Load4 d m) h in memory_fit m f.displaced f.scaled_
+fields_fit_of (Store4 m s) h = let f = formed (Store4 m s) h in memory_fit m f.displaced f.scaled_
 fields_fit_of (Lea d m) h = let f = formed (Lea d m) h in memory_fit m f.displaced f.scaled_
 fields_fit_of (Cmov c d s) h = refl
 fields_fit_of (Push s) h = refl
@@ -109,6 +121,7 @@ fields_fit_of (XShift o d n) h = (formed (XShift o d n) h).counted
 fields_fit_of (XIns d s n) h = byte_fit n 1 (omega arith) (formed (XIns d s n) h).counted
 fields_fit_of (XExt d s n) h = byte_fit n 1 (omega arith) (formed (XExt d s n) h).counted
 fields_fit_of (XMovq d s) h = refl
+fields_fit_of (XClmul d s n) h = choice_fit n (formed (XClmul d s n) h).counted
 
 -- What fits is read back.
 
@@ -146,6 +159,9 @@ move_source_legible (M m) h = addressable m h
 operands_legible : (i : Ins) → FieldsFit i → AllLegible (operands i)
 operands_legible (Mov d s) h = (tt, move_source_legible s h)
 operands_legible (Store m s) h = (addressable m h, tt)
+operands_legible (Load1 d m) h = (tt, addressable m h)
+operands_legible (Load4 d m) h = (tt, addressable m h)
+operands_legible (Store4 m s) h = (addressable m h, tt)
 operands_legible (Lea d m) h = (tt, addressable m h)
 operands_legible (Cmov c d s) h = (tt, tt)
 operands_legible (Push s) h = tt
@@ -166,6 +182,7 @@ operands_legible (XShift o d n) h = (tt, (byte_readable n h).0)
 operands_legible (XIns d s n) h = (tt, (tt, (byte_readable n h).0))
 operands_legible (XExt d s n) h = (tt, (tt, (byte_readable n h).0))
 operands_legible (XMovq d s) h = (tt, tt)
+operands_legible (XClmul d s n) h = (tt, (tt, (byte_readable n h).0))
 
 -- The operands of an instruction are read back, and make the instruction.
 pub record Back (i : Ins) : Type 0 where

@@ -11,7 +11,7 @@ use Rattle.x64_syntax.specs.declared.instructions.CarryOp.TheVariants as carry
 use Rattle.x64_syntax.specs.declared.instructions.XBinOp.TheVariants as xbin
 use Rattle.x64_syntax.specs.declared.instructions.XShiftOp.TheVariants as xshift
 use Rattle.x64_syntax.specs.declared.instructions.Ins.{Ins}
-use Rattle.x64_syntax.specs.declared.instructions.Ins.TheVariants.{Mov, Store, Lea, Cmov, Push, Pop, Alu, One as OneIns, Shift, Imul, Mul, Mulx, Carry, XMov, XLoad, XStore, XBin, XShuf, XShift, XIns, XExt, XMovq}
+use Rattle.x64_syntax.specs.declared.instructions.Ins.TheVariants.{Mov, Store, Load1, Load4, Store4, Lea, Cmov, Push, Pop, Alu, One as OneIns, Shift, Imul, Mul, Mulx, Carry, XMov, XLoad, XStore, XBin, XShuf, XShift, XIns, XExt, XMovq, XClmul}
 use Rattle.x64_syntax.specs.declared.items.Item.TheVariants as item
 use Rattle.x64_syntax.specs.declared.operations.Operation.{Operation}
 use Rattle.x64_syntax.specs.declared.operations.Operation.TheVariants as op
@@ -44,6 +44,9 @@ named (Mov d (R s)) = record { unbroken = refl; clean = refl; base = op.Mov; cal
 named (Mov d (Imm z)) = record { unbroken = refl; clean = refl; base = op.Mov; called = refl; narrow = refl; item = λ text. refl }
 named (Mov d (M m)) = record { unbroken = refl; clean = refl; base = op.Mov; called = refl; narrow = refl; item = λ text. refl }
 named (Store m s) = record { unbroken = refl; clean = refl; base = op.Mov; called = refl; narrow = refl; item = λ text. refl }
+named (Load1 d m) = record { unbroken = refl; clean = refl; base = op.Load1; called = refl; narrow = refl; item = λ text. refl }
+named (Load4 d m) = record { unbroken = refl; clean = refl; base = op.Load4; called = refl; narrow = refl; item = λ text. refl }
+named (Store4 m s) = record { unbroken = refl; clean = refl; base = op.Load4; called = refl; narrow = refl; item = λ text. refl }
 named (Lea d m) = record { unbroken = refl; clean = refl; base = op.Lea; called = refl; narrow = refl; item = λ text. refl }
 named (Cmov condition.E d s) = record { unbroken = refl; clean = refl; base = op.Cmov condition.E; called = refl; narrow = refl; item = λ text. refl }
 named (Cmov condition.Ne d s) = record { unbroken = refl; clean = refl; base = op.Cmov condition.Ne; called = refl; narrow = refl; item = λ text. refl }
@@ -83,6 +86,8 @@ named (XBin xbin.Paddq d s) = record { unbroken = refl; clean = refl; base = op.
 named (XBin xbin.Pshufb d s) = record { unbroken = refl; clean = refl; base = op.XBin xbin.Pshufb; called = refl; narrow = refl; item = λ text. refl }
 named (XBin xbin.Punpcklqdq d s) = record { unbroken = refl; clean = refl; base = op.XBin xbin.Punpcklqdq; called = refl; narrow = refl; item = λ text. refl }
 named (XBin xbin.Punpckhqdq d s) = record { unbroken = refl; clean = refl; base = op.XBin xbin.Punpckhqdq; called = refl; narrow = refl; item = λ text. refl }
+named (XBin xbin.Aesenc d s) = record { unbroken = refl; clean = refl; base = op.XBin xbin.Aesenc; called = refl; narrow = refl; item = λ text. refl }
+named (XBin xbin.Aesenclast d s) = record { unbroken = refl; clean = refl; base = op.XBin xbin.Aesenclast; called = refl; narrow = refl; item = λ text. refl }
 named (XShuf d s n) = record { unbroken = refl; clean = refl; base = op.XShuf; called = refl; narrow = refl; item = λ text. refl }
 named (XShift xshift.Pslld d n) = record { unbroken = refl; clean = refl; base = op.XShift xshift.Pslld; called = refl; narrow = refl; item = λ text. refl }
 named (XShift xshift.Psrld d n) = record { unbroken = refl; clean = refl; base = op.XShift xshift.Psrld; called = refl; narrow = refl; item = λ text. refl }
@@ -91,6 +96,7 @@ named (XShift xshift.Psrldq d n) = record { unbroken = refl; clean = refl; base 
 named (XIns d s n) = record { unbroken = refl; clean = refl; base = op.XIns; called = refl; narrow = refl; item = λ text. refl }
 named (XExt d s n) = record { unbroken = refl; clean = refl; base = op.XExt; called = refl; narrow = refl; item = λ text. refl }
 named (XMovq d s) = record { unbroken = refl; clean = refl; base = op.Mov; called = refl; narrow = refl; item = λ text. refl }
+named (XClmul d s n) = record { unbroken = refl; clean = refl; base = op.XClmul; called = refl; narrow = refl; item = λ text. refl }
 
 pub mnemonic_clean : (i : Ins) → lacks 10 (mnemonic Gas i) ≡ true
 mnemonic_clean i = (named i).clean

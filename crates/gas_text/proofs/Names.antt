@@ -7,7 +7,7 @@ use Rattle.x64_syntax.specs.declared.places.Xmm.{Xmm as XmmReg}
 use Rattle.x64_syntax.specs.declared.places.Xmm.TheVariants.{Xmm0, Xmm1, Xmm2, Xmm3, Xmm4, Xmm5, Xmm6, Xmm7, Xmm8, Xmm9, Xmm10, Xmm11, Xmm12, Xmm13, Xmm14, Xmm15}
 use Rattle.x64_syntax.specs.declared.conditions.Cond.{Cond}
 use Rattle.x64_syntax.specs.declared.conditions.Cond.TheVariants as condition
-use Rattle.x64_syntax.specs.Places.{reg_name, xmm_name, reg_of}
+use Rattle.x64_syntax.specs.Places.{reg_name, low_name, xmm_name, reg_of, low_of}
 use Rattle.asm_lines.specs.Lines.{cond_name}
 use Rattle.asm_lines.specs.inner.Conditions.{cond_of}
 use Rattle.gas_text.proofs.Cuts.{is_plain}
@@ -29,6 +29,60 @@ reg_plain R12 = refl
 reg_plain R13 = refl
 reg_plain R14 = refl
 reg_plain R15 = refl
+
+pub low_plain : (r : GeneralReg) → list_all is_plain (low_name r) ≡ true
+low_plain Rax = refl
+low_plain Rbx = refl
+low_plain Rcx = refl
+low_plain Rdx = refl
+low_plain Rsi = refl
+low_plain Rdi = refl
+low_plain Rbp = refl
+low_plain Rsp = refl
+low_plain R8 = refl
+low_plain R9 = refl
+low_plain R10 = refl
+low_plain R11 = refl
+low_plain R12 = refl
+low_plain R13 = refl
+low_plain R14 = refl
+low_plain R15 = refl
+
+pub low_no_reg : (r : GeneralReg) → reg_of (low_name r) ≡ None
+low_no_reg Rax = refl
+low_no_reg Rbx = refl
+low_no_reg Rcx = refl
+low_no_reg Rdx = refl
+low_no_reg Rsi = refl
+low_no_reg Rdi = refl
+low_no_reg Rbp = refl
+low_no_reg Rsp = refl
+low_no_reg R8 = refl
+low_no_reg R9 = refl
+low_no_reg R10 = refl
+low_no_reg R11 = refl
+low_no_reg R12 = refl
+low_no_reg R13 = refl
+low_no_reg R14 = refl
+low_no_reg R15 = refl
+
+pub xmm_no_low : (x : XmmReg) → low_of (xmm_name x) ≡ None
+xmm_no_low Xmm0 = refl
+xmm_no_low Xmm1 = refl
+xmm_no_low Xmm2 = refl
+xmm_no_low Xmm3 = refl
+xmm_no_low Xmm4 = refl
+xmm_no_low Xmm5 = refl
+xmm_no_low Xmm6 = refl
+xmm_no_low Xmm7 = refl
+xmm_no_low Xmm8 = refl
+xmm_no_low Xmm9 = refl
+xmm_no_low Xmm10 = refl
+xmm_no_low Xmm11 = refl
+xmm_no_low Xmm12 = refl
+xmm_no_low Xmm13 = refl
+xmm_no_low Xmm14 = refl
+xmm_no_low Xmm15 = refl
 
 pub xmm_no_reg : (x : XmmReg) → reg_of (xmm_name x) ≡ None
 xmm_no_reg Xmm0 = refl

@@ -8,10 +8,10 @@ use Rattle.std.proofs.lemmas.List.{append-nil, append_assoc}
 use Rattle.std.proofs.lemmas.Fmt.{decimal_nonempty}
 use Rattle.x64_syntax.specs.declared.places.Reg.{Reg as GeneralReg}
 use Rattle.x64_syntax.specs.declared.operands.Mem.{Mem}
-use Rattle.x64_syntax.specs.Places.{reg_name, xmm_name}
+use Rattle.x64_syntax.specs.Places.{reg_name, low_name, xmm_name}
 use Rattle.x64_syntax.specs.Words.{is_digit_byte}
 use Rattle.asm_lines.specs.declared.forms.Part.{Part}
-use Rattle.asm_lines.specs.declared.forms.Part.TheVariants.{General, Wide, Number, Memory}
+use Rattle.asm_lines.specs.declared.forms.Part.TheVariants.{General, Low, Wide, Number, Memory}
 use Rattle.asm_lines.specs.declared.forms.Parts.{Parts}
 use Rattle.asm_lines.specs.declared.forms.Parts.TheVariants.{One, Two, Three}
 use Rattle.asm_lines.specs.inner.Assembled.{at_most}
@@ -20,8 +20,8 @@ use Rattle.x64_syntax.specs.inner.Digits.{number_of}
 use Rattle.gas_text.specs.inner.Apart.{sides_of, number, displacement, index_of, address_of, memory, part_of, parts_of}
 use Rattle.gas_text.proofs.Cuts.{is_plain, lacks, lacks_append, lacks_plain, cut_at, cut_none, differ, Ended, before_end}
 use Rattle.x64_syntax.proofs.Digits.{are_digits, read_back}
-use Rattle.x64_syntax.proofs.ReadBack.{reg_back, xmm_back}
-use Rattle.gas_text.proofs.Names.{reg_plain, xmm_no_reg, xmm_plain}
+use Rattle.x64_syntax.proofs.ReadBack.{reg_back, low_back, xmm_back}
+use Rattle.gas_text.proofs.Names.{reg_plain, low_no_reg, low_plain, xmm_no_reg, xmm_no_low, xmm_plain}
 
 digits_plain : (ds : List ℕ) → list_all is_digit_byte ds ≡ true → list_all is_plain ds ≡ true
 digits_plain [] h = refl
@@ -139,7 +139,8 @@ starts_memory b bs plain = rw (differ b 37 plain refl, differ b 36 plain refl) r
 
 pub part_back : (p : Part) (end : List ℕ) → Legible p → Ended end → part_of (part_text p ++ end) ≡ Some p
 part_back (General r) end h e = rw (before_end (reg_name r) end (reg_plain r) e, reg_back r) refl
-part_back (Wide x) end h e = rw (before_end (xmm_name x) end (xmm_plain x) e, xmm_no_reg x, xmm_back x) refl
+part_back (Low r) end h e = rw (before_end (low_name r) end (low_plain r) e, low_no_reg r, low_back r) refl
+part_back (Wide x) end h e = rw (before_end (xmm_name x) end (xmm_plain x) e, xmm_no_reg x, xmm_no_low x, xmm_back x) refl
 part_back (Number z) end h e = rw (before_end (signed_decimal z) end h.plain e, h.back) refl
 part_back (Memory m) end h e =
     let text : memory_text m ++ end ≡ h.disp.first ∷ (h.disp.others ++ (codes "(" ++ ((codes "%" ++ (reg_name m.base ++ index_text m.index)) ++ (codes ")" ++ end)))) =
@@ -165,6 +166,7 @@ newline_outside = record { plain = refl; percent = refl; dollar = refl; opens = 
 
 pub part_lacks : (b : ℕ) → Outside b → (p : Part) → Legible p → lacks b (part_text p) ≡ true
 part_lacks b o (General r) h = lacks_append b (codes "%") (reg_name r) o.percent (lacks_plain b (reg_name r) o.plain (reg_plain r))
+part_lacks b o (Low r) h = lacks_append b (codes "%") (low_name r) o.percent (lacks_plain b (low_name r) o.plain (low_plain r))
 part_lacks b o (Wide x) h = lacks_append b (codes "%") (xmm_name x) o.percent (lacks_plain b (xmm_name x) o.plain (xmm_plain x))
 part_lacks b o (Number z) h = lacks_append b (codes "$") (signed_decimal z) o.dollar (lacks_plain b (signed_decimal z) o.plain h.plain)
 part_lacks b o (Memory m) h =

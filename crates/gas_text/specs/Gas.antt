@@ -6,9 +6,9 @@ use Rattle.x64_syntax.specs.declared.operands.Mem.{Mem}
 use Rattle.x64_syntax.specs.declared.instructions.Ins.{Ins}
 use Rattle.x64_syntax.specs.declared.items.Item.{Item}
 use Rattle.x64_syntax.specs.declared.items.Item.TheVariants as item
-use Rattle.x64_syntax.specs.Places.{reg_name, xmm_name}
+use Rattle.x64_syntax.specs.Places.{reg_name, low_name, xmm_name}
 use Rattle.asm_lines.specs.declared.forms.Part.{Part}
-use Rattle.asm_lines.specs.declared.forms.Part.TheVariants.{General, Wide, Number, Memory}
+use Rattle.asm_lines.specs.declared.forms.Part.TheVariants.{General, Low, Wide, Number, Memory}
 use Rattle.asm_lines.specs.declared.forms.Parts.{Parts}
 use Rattle.asm_lines.specs.declared.forms.Parts.TheVariants.{One, Two, Three}
 use Rattle.asm_lines.specs.declared.lines.Syntax.TheVariants.{Gas}
@@ -23,9 +23,10 @@ index_text (Some i) = codes ",%" ++ (reg_name i.0 ++ (codes "," ++ decimal i.1))
 abbrev pub memory_text : Mem → List ℕ
 memory_text m = signed_decimal m.disp ++ (codes "(%" ++ (reg_name m.base ++ (index_text m.index ++ codes ")")))
 
--- `%rax`, `%xmm0`, `$1`, `0(%rsi)`
+-- `%rax`, `%eax`, `%xmm0`, `$1`, `0(%rsi)`
 abbrev pub part_text : Part → List ℕ
 part_text (General r) = codes "%" ++ reg_name r
+part_text (Low r) = codes "%" ++ low_name r
 part_text (Wide x) = codes "%" ++ xmm_name x
 part_text (Number z) = codes "$" ++ signed_decimal z
 part_text (Memory m) = memory_text m

@@ -1,13 +1,15 @@
 // Lines taken apart: the item that a line can be. Whether it is that item's line is told by printing it.
 
 ghost use Rattle.std.specs.Prelude.{◌≡◌, pos, option_map};
-ghost use Rattle.x64_syntax.specs.Places.{reg_of};
+ghost use Rattle.x64_syntax.specs.Places.{reg_of, low_of};
 ghost use Rattle.asm_lines.specs.inner.Assembled.{at_most};
-ghost use Rattle.gas_text.specs.inner.Apart.{sides_of, before_comma, number, register, displacement, index_of, address_of, memory, register_part, part_of, more_parts, parts_behind, parts_of, operation_by_operands, mnemonic_operation, ins_of, label_of, item_by_mnemonic, item_of, found_item};
+ghost use Rattle.gas_text.specs.inner.Apart.{sides_of, before_comma, number, register, displacement, index_of, address_of, memory, narrow_part, register_part, part_of, more_parts, parts_behind, parts_of, operation_by_operands, mnemonic_operation, ins_of, label_of, item_by_mnemonic, item_of, found_item};
 
 use asm_lines::{Part, Parts, cond_named, instruction};
 use memchr::memchr;
-use x64_syntax::{Ins, Item, Mem, Operation, Reg, gas_named, read_number, reg_named, xmm_named};
+use x64_syntax::{
+    Ins, Item, Mem, Operation, Reg, gas_named, low_named, read_number, reg_named, xmm_named,
+};
 
 /// What is before the first such byte, and what is behind it.
 pub(crate) fn sides_of(text: &[u8], at: u8) -> Option<(&[u8], &[u8])>
@@ -92,12 +94,21 @@ fn memory(text: &[u8]) -> Option<Mem>
     address_of(displacement(number(disp)?)?, inside)
 }
 
+fn narrow_part(name: &[u8]) -> Option<Part>
+    ensures { result ≡ narrow_part (low_of name.now) name.now }
+{
+    match low_named(name) {
+        Some(reg) => Some(Part::Low(reg)),
+        None => Some(Part::Wide(xmm_named(name)?)),
+    }
+}
+
 fn register_part(name: &[u8]) -> Option<Part>
     ensures { result ≡ register_part (reg_of name.now) name.now }
 {
     match reg_named(name) {
         Some(reg) => Some(Part::General(reg)),
-        None => Some(Part::Wide(xmm_named(name)?)),
+        None => narrow_part(name),
     }
 }
 
@@ -127,13 +138,14 @@ fn parts(text: &[u8]) -> Option<Parts>
     Some(Parts::Three(part(text)?, middle, last))
 }
 
-// Three instructions are called `movq`: they differ in what is written.
+// Three instructions are called `movq` and two `movl`: they differ in what is written.
 fn operation_by_operands(operation: Operation, parts: Parts) -> Operation
     ensures { result ≡ operation_by_operands operation parts }
 {
     match (operation, parts) {
         (Operation::Mov, Parts::Two(Part::Memory(_), _)) => Operation::Store,
         (Operation::Mov, Parts::Two(Part::Wide(_), _)) => Operation::XMovq,
+        (Operation::Load4, Parts::Two(Part::Memory(_), _)) => Operation::Store4,
         _ => operation,
     }
 }

@@ -42,6 +42,10 @@ fn push_part(out: &mut Vec<u8>, part: Part) -> Result<(), NoMemory>
             push(out, "%")?;
             push(out, reg.name())
         }
+        Part::Low(reg) => {
+            push(out, "%")?;
+            push(out, reg.low_name())
+        }
         Part::Wide(xmm) => {
             push(out, "%")?;
             push(out, xmm.name())

@@ -55,6 +55,30 @@ fn loads_where_one_block_holds_all_bytes(rt: HostRuntime) -> Result<(), Fail> {
 }
 
 #[test]
+fn loads_short_numbers_at_the_end_of_a_block(rt: HostRuntime) -> Result<(), Fail> {
+    let blocks = three(rt.alloc())?;
+    assert_eq!(rt; blocks.load1(4119), Ok(b'H'));
+    assert_eq!(rt; blocks.load1(4120), Err(Outside));
+    assert_eq!(rt; blocks.load1(u64::MAX), Ok(b'!'));
+    assert_eq!(rt; blocks.load4(4116), Ok(0x48474645));
+    assert_eq!(rt; blocks.load4(4117), Err(Outside));
+    assert_eq!(rt; blocks.load4(4110), Err(Outside));
+    assert_eq!(rt; blocks.load4(u64::MAX - 3), Ok(0x217a7978));
+    Ok(())
+}
+
+#[test]
+fn stores_four_bytes_alone(rt: HostRuntime) -> Result<(), Fail> {
+    let mut blocks = three(rt.alloc())?;
+    assert_eq!(rt; blocks.store4(4108, 0x04030201), Ok(()));
+    assert_eq!(rt; blocks.load8(4104), Ok(0x0403020162613938));
+    assert_eq!(rt; blocks.load8(4112), Ok(0x4847464544434241));
+    assert_eq!(rt; blocks.store4(4109, 0), Err(Outside));
+    assert_eq!(rt; blocks.load4(4108), Ok(0x04030201));
+    Ok(())
+}
+
+#[test]
 fn stores_where_one_block_holds_all_bytes(rt: HostRuntime) -> Result<(), Fail> {
     let mut blocks = three(rt.alloc())?;
     assert_eq!(rt; blocks.store8(4104, 0x0807060504030201), Ok(()));

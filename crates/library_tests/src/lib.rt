@@ -1,9 +1,14 @@
 //! Tests of what the libraries answer where neither a clause nor a case says it: one happy path for calls that take
-//! memory and that no case makes, edges of words and blocks, files and streams of the system, and places in trees.
+//! memory and that no case makes, edges of words and blocks, an enciphered block, files and streams of the system, and
+//! places in trees.
 #![tactic(auto)]
 
 #[cfg(test)]
+mod aes;
+#[cfg(test)]
 mod blocks;
+#[cfg(test)]
+mod listings;
 #[cfg(test)]
 mod names;
 #[cfg(test)]

@@ -2,9 +2,10 @@
 
 use std::test::Fail;
 use x64_syntax::{
-    Abi, AluOp, BuiltIn, CarryOp, Cond, FlagName, Keyword, Operation, Place, PlaceSet, Reg, Sort,
-    Text, TypeWord, XBinOp, Xmm, built_in_named, flag_named, is_export_name, is_name, is_reserved,
-    keyword_named, operation_named, push, push_number, reg_named, type_word_named, xmm_named,
+    Abi, AluOp, BuiltIn, CarryOp, Cond, FlagName, Keyword, MachinePlace, Operation, PlaceSet, Reg,
+    Sort, Text, TypeWord, XBinOp, Xmm, built_in_named, flag_named, is_export_name, is_name,
+    is_reserved, keyword_named, low_named, operation_named, push, push_number, reg_named,
+    type_word_named, xmm_named,
 };
 
 #[test]
@@ -47,13 +48,24 @@ fn tells_names_from_words_that_are_taken(rt: HostRuntime) {
             "at {name}"
         );
     }
-    for name in ["procedure", "rax", "xmm15", "cf", "Add64", "slot3", "old"] {
+    for name in [
+        "procedure",
+        "rax",
+        "xmm15",
+        "cf",
+        "Add64",
+        "slot3",
+        "old",
+        "Store32",
+        "byteat",
+        "clmul",
+    ] {
         assert!(rt; is_reserved(name.as_bytes()), "at {name}");
     }
     for name in ["", "2x", "a-b", "a.b"] {
         assert!(rt; !is_name(name.as_bytes()), "at {name}");
     }
-    for name in ["add", "RAX", "ret", "L1", ""] {
+    for name in ["add", "RAX", "ret", "L1", "", "R15d", "movzbq", "AESENC"] {
         assert!(rt; !is_export_name(name.as_bytes()), "at {name}");
     }
     assert!(rt; is_export_name(b"gcm_sha_1"));
@@ -66,13 +78,13 @@ fn holds_the_places_of_its_bits(rt: HostRuntime) {
         xmms: 2,
         flags: 8,
     };
-    assert!(rt; set.contains(Place::Reg(Reg::Rax)));
-    assert!(rt; set.contains(Place::Reg(Reg::R15)));
-    assert!(rt; !set.contains(Place::Reg(Reg::Rbx)));
-    assert!(rt; set.contains(Place::Xmm(Xmm::Xmm1)));
-    assert!(rt; set.contains(Place::Flag(FlagName::Of)));
-    assert!(rt; !set.contains(Place::Flag(FlagName::Cf)));
-    assert!(rt; !PlaceSet::EMPTY.contains(Place::Reg(Reg::Rax)));
+    assert!(rt; set.contains(MachinePlace::Reg(Reg::Rax)));
+    assert!(rt; set.contains(MachinePlace::Reg(Reg::R15)));
+    assert!(rt; !set.contains(MachinePlace::Reg(Reg::Rbx)));
+    assert!(rt; set.contains(MachinePlace::Xmm(Xmm::Xmm1)));
+    assert!(rt; set.contains(MachinePlace::Flag(FlagName::Of)));
+    assert!(rt; !set.contains(MachinePlace::Flag(FlagName::Cf)));
+    assert!(rt; !PlaceSet::EMPTY.contains(MachinePlace::Reg(Reg::Rax)));
 }
 
 #[test]
@@ -87,6 +99,8 @@ fn tells_instructions_by_their_names(rt: HostRuntime) {
             Some(Operation::XBin(XBinOp::Punpckhqdq)),
         ),
         (b"Movq".as_slice(), Some(Operation::XMovq)),
+        (b"Movzx8".as_slice(), Some(Operation::Load1)),
+        (b"Pclmulqdq".as_slice(), Some(Operation::XClmul)),
         (b"mov64".as_slice(), None),
         (b"Mov".as_slice(), None),
         (b"Cmov".as_slice(), None),
@@ -106,6 +120,9 @@ fn tells_other_words_by_their_names(rt: HostRuntime) {
     assert_eq!(rt; type_word_named(b"sysv"), Some(TypeWord::Abi(Abi::Sysv)));
     assert_eq!(rt; type_word_named(b"W64"), None);
     assert_eq!(rt; reg_named(b"r15"), Some(Reg::R15));
+    assert_eq!(rt; reg_named(b"r15d"), None);
+    assert_eq!(rt; low_named(b"r15d"), Some(Reg::R15));
+    assert_eq!(rt; low_named(b"rax"), None);
     assert_eq!(rt; xmm_named(b"xmm16"), None);
     assert_eq!(rt; flag_named(b"flags"), None);
 }

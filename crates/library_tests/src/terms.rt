@@ -5,7 +5,7 @@ use std::alloc::{AllocError, Global};
 use std::test::Fail;
 use term_core::{BinOp, CountedOp, Operator, Term, UnOp, operator_of, same, sort_of};
 use x64_meaning::{version, version_name};
-use x64_syntax::{BuiltIn, FlagName, Place, Reg, Sort, Text};
+use x64_syntax::{BuiltIn, FlagName, MachinePlace, Reg, Sort, Text};
 
 #[test]
 fn tells_sorts_of_results(rt: HostRuntime) {
@@ -23,6 +23,9 @@ fn tells_sorts_of_results(rt: HostRuntime) {
         (BinOp::And, truth, truth, None),
         (BinOp::Pair, word, word, Some(wide)),
         (BinOp::Index, Sort::Arr, int, Some(word)),
+        (BinOp::DwordAt, Sort::Arr, int, Some(word)),
+        (BinOp::ByteAt, word, int, None),
+        (BinOp::Aesenclast, wide, wide, Some(wide)),
     ] {
         assert_eq!(rt; op.result(a, b), want);
     }
@@ -30,6 +33,7 @@ fn tells_sorts_of_results(rt: HostRuntime) {
         operator_of(BuiltIn::Mulhi),
         Some(Operator::Bin(BinOp::Mulhi))
     );
+    assert_eq!(rt; operator_of(BuiltIn::Clmul), Some(Operator::Clmul));
     assert_eq!(rt; operator_of(BuiltIn::Old), None);
     assert_eq!(rt; UnOp::Not.result(wide), Some(wide));
     assert_eq!(rt; UnOp::Not.result(truth), None);
@@ -65,12 +69,26 @@ fn tells_calls_apart(rt: HostRuntime) {
     assert_eq!(rt; sort_of(&call), Sort::Arr);
 }
 
+fn product(alloc: Global, n: u8) -> Result<Term, AllocError> {
+    let one = Boxed::new(alloc, Term::W128(1))?;
+    Ok(Term::Clmul(one, Boxed::new(alloc, Term::W128(2))?, n))
+}
+
+#[test]
+fn tells_products_without_carries_apart(rt: HostRuntime) -> Result<(), Fail> {
+    let low = product(rt.alloc(), 0)?;
+    assert!(rt; same(&low, &low));
+    assert!(rt; !same(&low, &product(rt.alloc(), 16)?));
+    assert_eq!(rt; sort_of(&low), Sort::W128);
+    Ok(())
+}
+
 #[test]
 fn names_a_place_at_a_version(rt: HostRuntime) -> Result<(), Fail> {
     let alloc = rt.alloc();
-    let name = version_name(alloc, Place::Reg(Reg::R15), 4096)?;
+    let name = version_name(alloc, MachinePlace::Reg(Reg::R15), 4096)?;
     assert_eq!(rt; name.as_bytes(), b"r15.4096".as_slice());
-    let flag = version(alloc, Place::Flag(FlagName::Cf), 0)?;
+    let flag = version(alloc, MachinePlace::Flag(FlagName::Cf), 0)?;
     let want = Term::Name(Text::from_slice(alloc, b"cf.0")?, Sort::Int);
     assert!(rt; same(&flag, &want));
     Ok(())

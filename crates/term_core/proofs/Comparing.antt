@@ -16,7 +16,7 @@ use Rattle.term_core.specs.declared.operator.BinOp.TheVariants as bin
 use Rattle.term_core.specs.declared.operator.CountedOp.{CountedOp}
 use Rattle.term_core.specs.declared.operator.CountedOp.TheVariants as counted
 use Rattle.term_core.specs.Operators.{sort_eq}
-use Rattle.term_core.specs.Terms.{Tm, Tms, Name, Int, W64, W128, TruthTerm, Un, Bin, Ite, Put, Shift, Call, All, no_tms, more_tms, tree, tms, un_eq, bin_eq, counted_eq, un_number, bin_number, counted_number, truth_eq, tm_eq, tms_eq}
+use Rattle.term_core.specs.Terms.{Tm, Tms, Name, Int, W64, W128, TruthTerm, Un, Bin, Ite, Put, PutDword, Clmul, Shift, Call, All, no_tms, more_tms, tree, tms, un_eq, bin_eq, counted_eq, un_number, bin_number, counted_number, truth_eq, tm_eq, tms_eq}
 
 pub lengths_differ : (as_ bs : List Term) → (length as_ ≡ length bs → ⊥) → false ≡ tms_eq (tms (map tree as_)) (tms (map tree bs))
 lengths_differ [] [] differ = absurd (differ refl)
@@ -59,7 +59,7 @@ un_back un.Lo = refl
 un_back un.Len = refl
 
 all_bin : List BinOp
-all_bin = bin.Add ∷ bin.Sub ∷ bin.Mul ∷ bin.Div ∷ bin.Mod ∷ bin.Eq ∷ bin.Lt ∷ bin.Le ∷ bin.LogicAnd ∷ bin.LogicOr ∷ bin.Implies ∷ bin.And ∷ bin.Or ∷ bin.Xor ∷ bin.Mulhi ∷ bin.Pair ∷ bin.Paddd ∷ bin.Pshufb ∷ bin.Index ∷ []
+all_bin = bin.Add ∷ bin.Sub ∷ bin.Mul ∷ bin.Div ∷ bin.Mod ∷ bin.Eq ∷ bin.Lt ∷ bin.Le ∷ bin.LogicAnd ∷ bin.LogicOr ∷ bin.Implies ∷ bin.And ∷ bin.Or ∷ bin.Xor ∷ bin.Mulhi ∷ bin.Pair ∷ bin.Paddd ∷ bin.Pshufb ∷ bin.Aesenc ∷ bin.Aesenclast ∷ bin.Index ∷ bin.ByteAt ∷ bin.DwordAt ∷ []
 
 bin_back : (o : BinOp) → slice_index_or all_bin (bin_number o) bin.Add ≡ o
 unfolding all_bin
@@ -81,7 +81,11 @@ bin_back bin.Mulhi = refl
 bin_back bin.Pair = refl
 bin_back bin.Paddd = refl
 bin_back bin.Pshufb = refl
+bin_back bin.Aesenc = refl
+bin_back bin.Aesenclast = refl
 bin_back bin.Index = refl
+bin_back bin.ByteAt = refl
+bin_back bin.DwordAt = refl
 
 all_counted : List CountedOp
 all_counted = counted.Shl ∷ counted.Shr ∷ counted.Rol ∷ counted.Ror ∷ counted.Pshufd ∷ counted.Pslld ∷ counted.Psrld ∷ counted.Pslldq ∷ counted.Psrldq ∷ []
@@ -160,6 +164,14 @@ mutual
       let q = and_parts (tm_eq a d) _ h in
       let r = and_parts (tm_eq b e) _ q.1 in
       ap (λ x. Put x b c) (tm_eq_is a d q.0) ∙ ap (λ x. Put d x c) (tm_eq_is b e r.0) ∙ ap (Put d e) (tm_eq_is c f r.1)
+  tm_eq_is (PutDword a b c) (PutDword d e f) h =
+      let q = and_parts (tm_eq a d) _ h in
+      let r = and_parts (tm_eq b e) _ q.1 in
+      ap (λ x. PutDword x b c) (tm_eq_is a d q.0) ∙ ap (λ x. PutDword d x c) (tm_eq_is b e r.0) ∙ ap (PutDword d e) (tm_eq_is c f r.1)
+  tm_eq_is (Clmul a b m) (Clmul c d n) h =
+      let q = and_parts (m == n) _ h in
+      let r = and_parts (tm_eq a c) _ q.1 in
+      ap (Clmul a b) (eqb-true m n q.0) ∙ ap (λ x. Clmul x b n) (tm_eq_is a c r.0) ∙ ap (λ x. Clmul c x n) (tm_eq_is b d r.1)
   tm_eq_is (Shift o m a) (Shift p n b) h =
       let q = and_parts (counted_eq o p) _ h in
       let r = and_parts (m == n) _ q.1 in
@@ -193,6 +205,8 @@ mutual
   tm_eq_same (Bin o a b) = and_from _ _ (bin_eq_same o) (and_from _ _ (tm_eq_same a) (tm_eq_same b))
   tm_eq_same (Ite a b c) = and_from _ _ (tm_eq_same a) (and_from _ _ (tm_eq_same b) (tm_eq_same c))
   tm_eq_same (Put a b c) = and_from _ _ (tm_eq_same a) (and_from _ _ (tm_eq_same b) (tm_eq_same c))
+  tm_eq_same (PutDword a b c) = and_from _ _ (tm_eq_same a) (and_from _ _ (tm_eq_same b) (tm_eq_same c))
+  tm_eq_same (Clmul a b n) = and_from _ _ (eq-eqb n n refl) (and_from _ _ (tm_eq_same a) (tm_eq_same b))
   tm_eq_same (Shift o n a) = and_from _ _ (counted_eq_same o) (and_from _ _ (eq-eqb n n refl) (tm_eq_same a))
   tm_eq_same (Call f s a) = and_from _ _ (eq-eqb f f refl) (and_from _ _ (sort_eq_same s) (tms_eq_same a))
   tm_eq_same (All n a b c) = and_from _ _ ((bytes_eq-Decides n n).1 refl) (and_from _ _ (tm_eq_same a) (and_from _ _ (tm_eq_same b) (tm_eq_same c)))

@@ -13,10 +13,11 @@ use Rattle.term_core.specs.declared.operator.UnOp.TheVariants as un
 use Rattle.term_core.specs.declared.operator.BinOp.{BinOp}
 use Rattle.term_core.specs.declared.operator.BinOp.TheVariants as bin
 use Rattle.term_core.specs.Operators.{sum_sort, bits_sort, un_sort, bin_sort, counted_sort}
-use Rattle.term_core.specs.Terms.{Tm, Name, Int, W64, W128, Un, Bin, Ite, Put, Shift, Call, All, tm_sort}
+use Rattle.term_core.specs.Terms.{Tm, Name, Int, W64, W128, Un, Bin, Ite, Put, PutDword, Clmul, Shift, Call, All, tm_sort}
 use Rattle.term_core.specs.Terms as tm
-use Rattle.term_core.specs.Value.{T, T128, Val, Whole, Truth, Word, Wide, Array, truth, word, whole, wide, array, cast, word_of, val_eq, un_value, bin_value, sum_value, difference_value, product_value, bits_value, not_value, word_at, put_at, shift_value, Functions, Assignment, value, values}
-use Rattle.term_core.specs.Words128.{paddd, pshufb}
+use Rattle.term_core.specs.Value.{T, T128, Val, Whole, Truth, Word, Wide, Array, truth, word, whole, wide, array, cast, word_of, val_eq, un_value, bin_value, sum_value, difference_value, product_value, bits_value, not_value, word_at, byte_at, dword_at, put_at, put_dword_at, shift_value, Functions, Assignment, value, values}
+use Rattle.aes_words.specs.Rounds.{aesenc, aesenclast, clmul}
+use Rattle.word_ops.specs.Words128.{paddd, pshufb}
 use Rattle.term_core.proofs.Comparing.{int_eq_same}
 
 pub word-lt : (v : Val) → word v < T
@@ -138,7 +139,11 @@ bin_value-sorted bin.Mulhi s v w = is_word _ (upper-lt (word v) (word w) (word-l
 bin_value-sorted bin.Pair s v w = is_wide _ (pair-lt (word v) (word w) (word-lt v) (word-lt w))
 bin_value-sorted bin.Paddd s v w = cast_twice sort.W128 (Wide (paddd (wide v) (wide w)))
 bin_value-sorted bin.Pshufb s v w = cast_twice sort.W128 (Wide (pshufb (wide v) (wide w)))
+bin_value-sorted bin.Aesenc s v w = cast_twice sort.W128 (Wide (aesenc (wide v) (wide w)))
+bin_value-sorted bin.Aesenclast s v w = cast_twice sort.W128 (Wide (aesenclast (wide v) (wide w)))
 bin_value-sorted bin.Index s v w = cast_twice sort.W64 (Word (word_at (array v) (whole w)))
+bin_value-sorted bin.ByteAt s v w = cast_twice sort.W64 (Word (byte_at (array v) (whole w)))
+bin_value-sorted bin.DwordAt s v w = cast_twice sort.W64 (Word (dword_at (array v) (whole w)))
 
 pub choice-sorted : (s : Sort) (b : Bool) (v w : Val) → IsOf s v → IsOf s (cond b v (cast s w))
 choice-sorted s true v w h = h
@@ -155,6 +160,8 @@ value-sorted f a (Un op t) = un_value-sorted op (tm_sort t) (value f a t)
 value-sorted f a (Bin op t u) = bin_value-sorted op (tm_sort t) (value f a t) (value f a u)
 value-sorted f a (Ite c t u) = choice-sorted (tm_sort t) (truth (value f a c)) (value f a t) (value f a u) (value-sorted f a t)
 value-sorted f a (Put x i w) = cast_twice sort.Arr (Array (put_at (array (value f a x)) (whole (value f a i)) (word (value f a w))))
+value-sorted f a (PutDword x j w) = cast_twice sort.Arr (Array (put_dword_at (array (value f a x)) (whole (value f a j)) (word (value f a w))))
+value-sorted f a (Clmul t u n) = cast_twice sort.W128 (Wide (clmul (wide (value f a t)) (wide (value f a u)) n))
 value-sorted f a (Shift op n t) = cast_twice (counted_sort op) (shift_value op n (value f a t))
 value-sorted f a (Call k s args) = cast_twice s (f k (values f a args))
 value-sorted f a (All text low high body) = refl

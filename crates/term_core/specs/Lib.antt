@@ -1,4 +1,3 @@
 pub mod Operators
 pub mod Terms
-pub mod Words128
 pub mod Value

@@ -61,7 +61,11 @@ bin_takes bin.Mulhi s t = both_are sort.W64 s t
 bin_takes bin.Pair s t = both_are sort.W64 s t
 bin_takes bin.Paddd s t = both_are sort.W128 s t
 bin_takes bin.Pshufb s t = both_are sort.W128 s t
+bin_takes bin.Aesenc s t = both_are sort.W128 s t
+bin_takes bin.Aesenclast s t = both_are sort.W128 s t
 bin_takes bin.Index s t = sort_eq s sort.Arr && sort_eq t sort.Int
+bin_takes bin.ByteAt s t = sort_eq s sort.Arr && sort_eq t sort.Int
+bin_takes bin.DwordAt s t = sort_eq s sort.Arr && sort_eq t sort.Int
 
 -- the operator's sort, and its greatest constant
 abbrev pub counted_sort : CountedOp → Sort
@@ -121,7 +125,11 @@ bin_sort bin.Mulhi s = sort.W64
 bin_sort bin.Pair s = sort.W128
 bin_sort bin.Paddd s = sort.W128
 bin_sort bin.Pshufb s = sort.W128
+bin_sort bin.Aesenc s = sort.W128
+bin_sort bin.Aesenclast s = sort.W128
 bin_sort bin.Index s = sort.W64
+bin_sort bin.ByteAt s = sort.W64
+bin_sort bin.DwordAt s = sort.W64
 
 abbrev pub given_if : Bool → Sort → Option Sort
 given_if takes s = if takes then Some s else None
@@ -162,8 +170,14 @@ operator_of built_in.Pslld = Some (operator.Counted counted.Pslld)
 operator_of built_in.Psrld = Some (operator.Counted counted.Psrld)
 operator_of built_in.Pslldq = Some (operator.Counted counted.Pslldq)
 operator_of built_in.Psrldq = Some (operator.Counted counted.Psrldq)
+operator_of built_in.Aesenc = Some (operator.Bin bin.Aesenc)
+operator_of built_in.Aesenclast = Some (operator.Bin bin.Aesenclast)
+operator_of built_in.Clmul = Some operator.Clmul
 operator_of built_in.Len = Some (operator.Un un.Len)
 operator_of built_in.Put = Some operator.Put
+operator_of built_in.ByteAt = Some (operator.Bin bin.ByteAt)
+operator_of built_in.DwordAt = Some (operator.Bin bin.DwordAt)
+operator_of built_in.PutDword = Some operator.PutDword
 operator_of built_in.ForAll = Some operator.All
 operator_of built_in.Old = None
 operator_of built_in.Defined = None

@@ -26,6 +26,8 @@ mutual
     Bin : BinOp → Tm → Tm → Tm
     Ite : Tm → Tm → Tm → Tm
     Put : Tm → Tm → Tm → Tm
+    PutDword : Tm → Tm → Tm → Tm
+    Clmul : Tm → Tm → ℕ → Tm
     Shift : CountedOp → ℕ → Tm → Tm
     Call : ℕ → Sort → Tms → Tm
     All : List ℕ → Tm → Tm → Tm → Tm
@@ -49,6 +51,8 @@ layer (Term-F.Un op a) = Un op a
 layer (Term-F.Bin op a b) = Bin op a b
 layer (Term-F.Ite c a b) = Ite c a b
 layer (Term-F.Put x i w) = Put x i w
+layer (Term-F.PutDword x j w) = PutDword x j w
+layer (Term-F.Clmul a b n) = Clmul a b n
 layer (Term-F.Shift op n a) = Shift op n a
 layer (Term-F.Call f s args) = Call f s (tms args)
 layer (Term-F.All text low high body) = All text low high body
@@ -92,7 +96,11 @@ bin_number bin.Mulhi = 14
 bin_number bin.Pair = 15
 bin_number bin.Paddd = 16
 bin_number bin.Pshufb = 17
-bin_number bin.Index = 18
+bin_number bin.Aesenc = 18
+bin_number bin.Aesenclast = 19
+bin_number bin.Index = 20
+bin_number bin.ByteAt = 21
+bin_number bin.DwordAt = 22
 
 unfoldable pub bin_eq : BinOp → BinOp → Bool
 bin_eq o p = bin_number o == bin_number p
@@ -128,6 +136,8 @@ abbrev mutual
   tm_eq (Bin o a b) (Bin p c d) = bin_eq o p && (tm_eq a c && tm_eq b d)
   tm_eq (Ite a b c) (Ite d e f) = tm_eq a d && (tm_eq b e && tm_eq c f)
   tm_eq (Put a b c) (Put d e f) = tm_eq a d && (tm_eq b e && tm_eq c f)
+  tm_eq (PutDword a b c) (PutDword d e f) = tm_eq a d && (tm_eq b e && tm_eq c f)
+  tm_eq (Clmul a b m) (Clmul c d n) = (m == n) && (tm_eq a c && tm_eq b d)
   tm_eq (Shift o m a) (Shift p n b) = counted_eq o p && ((m == n) && tm_eq a b)
   tm_eq (Call f s a) (Call g t b) = (f == g) && (sort_eq s t && tms_eq a b)
   tm_eq (All m a b c) (All n d e f) = bytes_eq m n && (tm_eq a d && (tm_eq b e && tm_eq c f))
@@ -148,6 +158,8 @@ tm_sort (Un op a) = un_sort op (tm_sort a)
 tm_sort (Bin op a b) = bin_sort op (tm_sort a)
 tm_sort (Ite c a b) = tm_sort a
 tm_sort (Put x i w) = sort.Arr
+tm_sort (PutDword x j w) = sort.Arr
+tm_sort (Clmul a b n) = sort.W128
 tm_sort (Shift op n a) = counted_sort op
 tm_sort (Call f s args) = s
 tm_sort (All text low high body) = sort.Bool

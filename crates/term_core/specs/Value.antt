@@ -13,9 +13,11 @@ use Rattle.term_core.specs.declared.operator.BinOp.TheVariants as bin
 use Rattle.term_core.specs.declared.operator.CountedOp.{CountedOp}
 use Rattle.term_core.specs.declared.operator.CountedOp.TheVariants as counted
 use Rattle.term_core.specs.Operators.{sort_eq, counted_sort}
-use Rattle.term_core.specs.Terms.{Tm, Tms, Name, Int, W64, W128, Un, Bin, Ite, Put, Shift, Call, All, no_tms, more_tms, tm_sort}
+use Rattle.term_core.specs.Terms.{Tm, Tms, Name, Int, W64, W128, Un, Bin, Ite, Put, PutDword, Clmul, Shift, Call, All, no_tms, more_tms, tm_sort}
 use Rattle.term_core.specs.Terms as tm
-use Rattle.term_core.specs.Words128.{paddd, pshufb, pshufd, pslld, psrld, pslldq, psrldq}
+use Rattle.aes_words.specs.Rounds.{aesenc, aesenclast, clmul}
+use Rattle.word_ops.specs.Words.{rol, ror}
+use Rattle.word_ops.specs.Words128.{pair, high, low, paddd, pshufb, pshufd, pslld, psrld, pslldq, psrldq}
 
 -- the words of 128 bits are the numbers below this one
 abbrev pub T128 : ℕ
@@ -87,6 +89,26 @@ abbrev pub put_at : List ℕ → ℤ → ℕ → List ℕ
 put_at ws (pos i) w = slice_set ws i w
 put_at ws (negsuc i) w = ws
 
+-- byte j of an array's words, each from the low end, and 0 outside
+abbrev pub byte_at : List ℕ → ℤ → ℕ
+byte_at ws (pos j) = (slice_index ws (j / 8) / 256 ^ (j % 8)) % 256
+byte_at ws (negsuc j) = 0
+
+-- half j of an array's words, the lower one first, and 0 outside
+abbrev pub dword_at : List ℕ → ℤ → ℕ
+dword_at ws (pos j) = (slice_index ws (j / 2) / (2 ^ 32) ^ (j % 2)) % 2 ^ 32
+dword_at ws (negsuc j) = 0
+
+-- a word with the lower half replaced, or with the upper one
+abbrev pub with_half : ℕ → ℕ → ℕ → ℕ
+with_half n zero half = n / 2 ^ 32 * 2 ^ 32 + half
+with_half n _ half = half * 2 ^ 32 + n % 2 ^ 32
+
+-- the array with half j replaced by the lower half of a word, and the array itself where j is outside
+abbrev pub put_dword_at : List ℕ → ℤ → ℕ → List ℕ
+put_dword_at ws (pos j) w = slice_set ws (j / 2) (with_half (slice_index ws (j / 2)) (j % 2) (w % 2 ^ 32))
+put_dword_at ws (negsuc j) w = ws
+
 -- the word, or all 128 bits, of which each bit is the other one
 abbrev pub not_value : Sort → Val → Val
 not_value sort.W128 v = Wide (T128 - 1 - wide v)
@@ -99,8 +121,8 @@ un_value un.Int s v = Whole (pos (word v))
 un_value un.Word s v = Word (word_of (whole v))
 un_value un.LogicNot s v = Truth (not (truth v))
 un_value un.Not s v = not_value s v
-un_value un.Hi s v = Word (wide v / T)
-un_value un.Lo s v = Word (wide v % T)
+un_value un.Hi s v = Word (high (wide v))
+un_value un.Lo s v = Word (low (wide v))
 un_value un.Len s v = Whole (pos (length (array v)))
 
 -- of words modulo 2^64 where the first is one, else of whole numbers; a difference of words isn't negative by 2^64 more
@@ -137,17 +159,21 @@ bin_value bin.And s v w = bits_value bit_and s v w
 bin_value bin.Or s v w = bits_value bit_or s v w
 bin_value bin.Xor s v w = bits_value bit_xor s v w
 bin_value bin.Mulhi s v w = Word ((word v * word w) / T)
-bin_value bin.Pair s v w = Wide (word v * T + word w)
+bin_value bin.Pair s v w = Wide (pair (word v) (word w))
 bin_value bin.Paddd s v w = cast sort.W128 (Wide (paddd (wide v) (wide w)))
 bin_value bin.Pshufb s v w = cast sort.W128 (Wide (pshufb (wide v) (wide w)))
+bin_value bin.Aesenc s v w = cast sort.W128 (Wide (aesenc (wide v) (wide w)))
+bin_value bin.Aesenclast s v w = cast sort.W128 (Wide (aesenclast (wide v) (wide w)))
 bin_value bin.Index s v w = cast sort.W64 (Word (word_at (array v) (whole w)))
+bin_value bin.ByteAt s v w = cast sort.W64 (Word (byte_at (array v) (whole w)))
+bin_value bin.DwordAt s v w = cast sort.W64 (Word (dword_at (array v) (whole w)))
 
 -- a word of 64 or 128 bits shifted, rotated or picked from by a constant
 abbrev pub shift_value : CountedOp → ℕ → Val → Val
 shift_value counted.Shl n v = Word (word v * 2 ^ n)
 shift_value counted.Shr n v = Word (word v / 2 ^ n)
-shift_value counted.Rol n v = Word ((word v * 2 ^ n) % T + word v / 2 ^ (64 - n))
-shift_value counted.Ror n v = Word (word v / 2 ^ n + (word v * 2 ^ (64 - n)) % T)
+shift_value counted.Rol n v = Word (rol (word v) n)
+shift_value counted.Ror n v = Word (ror (word v) n)
 shift_value counted.Pshufd n v = Wide (pshufd (wide v) n)
 shift_value counted.Pslld n v = Wide (pslld (wide v) n)
 shift_value counted.Psrld n v = Wide (psrld (wide v) n)
@@ -159,6 +185,12 @@ counted_value op n v = cast (counted_sort op) (shift_value op n v)
 
 abbrev pub put_value : Val → Val → Val → Val
 put_value x i w = cast sort.Arr (Array (put_at (array x) (whole i) (word w)))
+
+abbrev pub put_dword_value : Val → Val → Val → Val
+put_dword_value x j w = cast sort.Arr (Array (put_dword_at (array x) (whole j) (word w)))
+
+abbrev pub clmul_value : Val → Val → ℕ → Val
+clmul_value v w n = cast sort.W128 (Wide (clmul (wide v) (wide w) n))
 
 -- what functions give, by their numbers and arguments
 abbrev pub Functions : Type 0
@@ -197,6 +229,8 @@ abbrev mutual
   value f a (Bin op t u) = bin_value op (tm_sort t) (value f a t) (value f a u)
   value f a (Ite c t u) = if truth (value f a c) then value f a t else cast (tm_sort t) (value f a u)
   value f a (Put x i w) = put_value (value f a x) (value f a i) (value f a w)
+  value f a (PutDword x j w) = put_dword_value (value f a x) (value f a j) (value f a w)
+  value f a (Clmul t u n) = clmul_value (value f a t) (value f a u) n
   value f a (Shift op n t) = counted_value op n (value f a t)
   value f a (Call k s args) = cast s (f k (values f a args))
   value f a (All text low high body) =

@@ -66,8 +66,16 @@ pub enum BinOp {
     Paddd,
     /// `pshufb(a, c)`: picks bytes of a by those of c.
     Pshufb,
+    /// `aesenc(a, k)`: a round of AES of the state a with the round key k.
+    Aesenc,
+    /// `aesenclast(a, k)`: the last round.
+    Aesenclast,
     /// `x[i]`: word i of an array, and 0 outside.
     Index,
+    /// `byteat(x, j)`: byte j of an array's words, each from the low end, and 0 outside.
+    ByteAt,
+    /// `dwordat(x, j)`: half j of an array's words, the lower one first, and 0 outside.
+    DwordAt,
 }
 
 /// An operator on a constant and a term: the shifts, rotations and picks of words.
@@ -145,8 +153,9 @@ impl BinOp {
             BinOp::Eq | BinOp::Lt | BinOp::Le => Sort::Bool,
             BinOp::LogicAnd | BinOp::LogicOr | BinOp::Implies => Sort::Bool,
             BinOp::And | BinOp::Or | BinOp::Xor => bits_sort(a),
-            BinOp::Mulhi | BinOp::Index => Sort::W64,
+            BinOp::Mulhi | BinOp::Index | BinOp::ByteAt | BinOp::DwordAt => Sort::W64,
             BinOp::Pair | BinOp::Paddd | BinOp::Pshufb => Sort::W128,
+            BinOp::Aesenc | BinOp::Aesenclast => Sort::W128,
         }
     }
 
@@ -173,8 +182,10 @@ impl BinOp {
             },
             BinOp::Mulhi => both(Sort::W64, a, b, Sort::W64),
             BinOp::Pair => both(Sort::W64, a, b, Sort::W128),
-            BinOp::Paddd | BinOp::Pshufb => both(Sort::W128, a, b, Sort::W128),
-            BinOp::Index => match (a, b) {
+            BinOp::Paddd | BinOp::Pshufb | BinOp::Aesenc | BinOp::Aesenclast => {
+                both(Sort::W128, a, b, Sort::W128)
+            }
+            BinOp::Index | BinOp::ByteAt | BinOp::DwordAt => match (a, b) {
                 (Sort::Arr, Sort::Int) => Some(Sort::W64),
                 _ => None,
             },
@@ -252,6 +263,8 @@ pub enum Operator {
     Counted(CountedOp),
     Ite,
     Put,
+    PutDword,
+    Clmul,
     All,
 }
 
@@ -284,8 +297,14 @@ pub fn operator_of(word: BuiltIn) -> Option<Operator>
         BuiltIn::Psrld => Operator::Counted(CountedOp::Psrld),
         BuiltIn::Pslldq => Operator::Counted(CountedOp::Pslldq),
         BuiltIn::Psrldq => Operator::Counted(CountedOp::Psrldq),
+        BuiltIn::Aesenc => Operator::Bin(BinOp::Aesenc),
+        BuiltIn::Aesenclast => Operator::Bin(BinOp::Aesenclast),
+        BuiltIn::Clmul => Operator::Clmul,
         BuiltIn::Len => Operator::Un(UnOp::Len),
         BuiltIn::Put => Operator::Put,
+        BuiltIn::ByteAt => Operator::Bin(BinOp::ByteAt),
+        BuiltIn::DwordAt => Operator::Bin(BinOp::DwordAt),
+        BuiltIn::PutDword => Operator::PutDword,
         BuiltIn::ForAll => Operator::All,
         BuiltIn::Old | BuiltIn::Defined | BuiltIn::Slot | BuiltIn::Base => return None,
     };

@@ -21,6 +21,10 @@ pub enum Term {
     Ite(Boxed<Term>, Boxed<Term>, Boxed<Term>),
     /// `put(x, i, w)`: x with word i replaced, and x itself where i is outside.
     Put(Boxed<Term>, Boxed<Term>, Boxed<Term>),
+    /// `putdword(x, j, w)`: x with half j of its words replaced by the lower half of w, and x itself where j is outside.
+    PutDword(Boxed<Term>, Boxed<Term>, Boxed<Term>),
+    /// `clmul(a, b, n)`: the product without carries of a word of a and a word of b, which bits 0 and 4 of n choose.
+    Clmul(Boxed<Term>, Boxed<Term>, u8),
     /// An operator with its constant, and the term.
     Shift(CountedOp, u8, Boxed<Term>),
     /// A function by its number, the sort of its result, and the arguments.
@@ -51,8 +55,13 @@ pub fn same(a: &Term, b: &Term) -> bool
         (Term::Bin(o, a, b), Term::Bin(p, c, d)) => {
             o.is(*p) && same(a.get(), c.get()) && same(b.get(), d.get())
         }
-        (Term::Ite(a, b, c), Term::Ite(d, e, f)) | (Term::Put(a, b, c), Term::Put(d, e, f)) => {
+        (Term::Ite(a, b, c), Term::Ite(d, e, f))
+        | (Term::Put(a, b, c), Term::Put(d, e, f))
+        | (Term::PutDword(a, b, c), Term::PutDword(d, e, f)) => {
             same(a.get(), d.get()) && same(b.get(), e.get()) && same(c.get(), f.get())
+        }
+        (Term::Clmul(a, b, m), Term::Clmul(c, d, n)) => {
+            m == n && same(a.get(), c.get()) && same(b.get(), d.get())
         }
         (Term::Shift(o, m, a), Term::Shift(p, n, b)) => o.is(*p)
             && m == n
@@ -93,12 +102,12 @@ pub fn sort_of(t: &Term) -> Sort
         Term::Name(_, sort) | Term::Call(_, sort, _) => *sort,
         Term::Int(_) => Sort::Int,
         Term::W64(_) => Sort::W64,
-        Term::W128(_) => Sort::W128,
+        Term::W128(_) | Term::Clmul(_, _, _) => Sort::W128,
         Term::Bool(_) | Term::All(_, _, _, _) => Sort::Bool,
         Term::Un(op, a) => op.sort(sort_of(a.get())),
         Term::Bin(op, a, _) => op.sort(sort_of(a.get())),
         Term::Ite(_, a, _) => sort_of(a.get()),
-        Term::Put(_, _, _) => Sort::Arr,
+        Term::Put(_, _, _) | Term::PutDword(_, _, _) => Sort::Arr,
         Term::Shift(op, _, _) => op.sort(),
     }
 }

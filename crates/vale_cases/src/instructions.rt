@@ -5,8 +5,8 @@ use asm_lines::{Part, Parts, instruction};
 use bstr::ByteSlice;
 use std::alloc::Global;
 use x64_syntax::{
-    FlagName, FormFault, Ins, Mem, Place, PlaceSet, Reg, Xmm, ins_ok, operation_named, reads_of,
-    reg_named, writes_of, xmm_named,
+    FlagName, FormFault, Ins, MachinePlace, Mem, Operation, PlaceSet, Reg, Xmm, ins_ok,
+    operation_named, reads_of, reg_named, writes_of, xmm_named,
 };
 
 fn number(text: &[u8]) -> Option<i128> {
@@ -76,10 +76,21 @@ fn parts(text: &[u8]) -> Option<Parts> {
     }
 }
 
+// Moves of 32 bits take the lower half of a register.
+fn narrowed(operation: Operation, parts: Parts) -> Parts {
+    match (operation, parts) {
+        (Operation::Load4, Parts::Two(Part::General(d), m)) => Parts::Two(Part::Low(d), m),
+        (Operation::Store4, Parts::Two(m, Part::General(s))) => Parts::Two(m, Part::Low(s)),
+        _ => parts,
+    }
+}
+
 /// The instruction of a text such as `Add64(rax, 1)`, whether it is one of the machine's or not.
 pub(crate) fn instruction_of(text: &[u8]) -> Option<Ins> {
     let (name, rest) = text.split_once_str(b"(")?;
-    instruction(operation_named(name)?, parts(rest.strip_suffix(b")")?)?)
+    let operation = operation_named(name)?;
+    let parts = parts(rest.strip_suffix(b")")?)?;
+    instruction(operation, narrowed(operation, parts))
 }
 
 fn fault_name(fault: FormFault) -> &'static str {
@@ -92,7 +103,7 @@ fn fault_name(fault: FormFault) -> &'static str {
     }
 }
 
-fn push_place(out: &mut String, set: PlaceSet, place: Place) -> Result<()> {
+fn push_place(out: &mut String, set: PlaceSet, place: MachinePlace) -> Result<()> {
     if set.contains(place) {
         out.push_str(" ")?;
         out.push_str(place.name())?;
@@ -102,13 +113,13 @@ fn push_place(out: &mut String, set: PlaceSet, place: Place) -> Result<()> {
 
 fn push_places(out: &mut String, set: PlaceSet) -> Result<()> {
     for reg in Reg::ALL {
-        push_place(out, set, Place::Reg(reg))?;
+        push_place(out, set, MachinePlace::Reg(reg))?;
     }
     for xmm in Xmm::ALL {
-        push_place(out, set, Place::Xmm(xmm))?;
+        push_place(out, set, MachinePlace::Xmm(xmm))?;
     }
     for flag in FlagName::ALL {
-        push_place(out, set, Place::Flag(flag))?;
+        push_place(out, set, MachinePlace::Flag(flag))?;
     }
     Ok(())
 }

@@ -8,7 +8,7 @@ use bstr::ByteSlice;
 use code_lower::{labels_fit, lower};
 use std::alloc::Global;
 use x64_blocks::Blocks;
-use x64_evaluator::{Trace, are_general, read_state, report_of, run_items};
+use x64_evaluator::{Trace, read_state, report_of, run_items};
 use x64_meaning::{Flag, Machine, holds, open_flag};
 use x64_syntax::{Code, Cond, Item, Text, code_ok, program_ok};
 
@@ -139,7 +139,7 @@ fn run_report(
     steps: u64,
     room: usize,
 ) -> Result<Option<Vec<u8>>> {
-    if !program_ok(items) || !are_general(items) || !matches!(items.first(), Some(Item::Entry(_))) {
+    if !program_ok(items) || !matches!(items.first(), Some(Item::Entry(_))) {
         return Ok(None);
     }
     let mut trace = Trace::with_room(alloc, room)?;

@@ -3,7 +3,7 @@
 use anyhow::Result;
 use std::alloc::Global;
 use x64_blocks::Blocks;
-use x64_meaning::{Machine, Obs, Seen, holds, is_general, open_flag, step_ins};
+use x64_meaning::{Machine, Obs, Seen, holds, open_flag, step_ins};
 use x64_syntax::{AluOp, Cmp, Code, Ins, Item, Node, Opr, Reg, ins_ok};
 
 const BLOCK: u64 = 8192;
@@ -54,7 +54,7 @@ impl Log {
 
     // Does an instruction, and tells its access; none where it can't be done.
     fn step(&mut self, m: &mut Machine, ins: &Ins) -> Result<Option<Option<Obs>>> {
-        if ins_ok(ins).is_err() || !is_general(ins) {
+        if ins_ok(ins).is_err() {
             return Ok(None);
         }
         let mut seen = Seen { last: None };

@@ -8,8 +8,8 @@ use Rattle.std.proofs.lemmas.Int.{ints}
 use Rattle.x64_syntax.specs.declared.places.Reg.{Reg as GeneralReg}
 use Rattle.x64_syntax.specs.declared.places.Reg.TheVariants.{Rsp}
 use Rattle.x64_syntax.specs.declared.places.FlagName.{FlagName}
-use Rattle.x64_syntax.specs.declared.places.Place.{Place}
-use Rattle.x64_syntax.specs.declared.places.Place.TheVariants.{Reg, Xmm, Flag}
+use Rattle.x64_syntax.specs.declared.places.MachinePlace.{MachinePlace}
+use Rattle.x64_syntax.specs.declared.places.MachinePlace.TheVariants.{Reg, Xmm, Flag}
 use Rattle.x64_syntax.specs.declared.operands.Opr.TheVariants.{R, Imm, M}
 use Rattle.x64_syntax.specs.declared.instructions.AluOp.TheVariants.{Add}
 use Rattle.x64_syntax.specs.declared.instructions.Ins.{Ins}
@@ -78,7 +78,7 @@ module _ (rs : List GeneralReg) where
     by_test false e = refl
 
   -- no place that isn't declared is written
-  unwritten_by : (i : Ins) (q : Place) → IsInstruction rs i → (c : Place → Bool) → ((r : GeneralReg) → c (Reg r) ≡ has rs r) → ((f : FlagName) → c (Flag f) ≡ true) → c q ≡ false → not (among (writes i) q) ≡ true
+  unwritten_by : (i : Ins) (q : MachinePlace) → IsInstruction rs i → (c : MachinePlace → Bool) → ((r : GeneralReg) → c (Reg r) ≡ has rs r) → ((f : FlagName) → c (Flag f) ≡ true) → c q ≡ false → not (among (writes i) q) ≡ true
   unwritten_by (Mov d s) (Reg r) h c cr cf out = not_from_false _ (ap (λ b. b || false) (told_apart d r h.0 (sym (cr r) ∙ out)))
   unwritten_by (Mov d s) (Xmm x) h c cr cf out = refl
   unwritten_by (Mov d s) (Flag f) h c cr cf out = refl
@@ -151,7 +151,7 @@ straight_lowered p =
     append-nil (export_items 0 p.export (straight_code p.instructions))
     ∙ ap (λ l. item.Entry p.export ∷ (l ++ item.Ret ∷ [])) (code_is 0 p.instructions)
 
-declared : (p : StraightLine) (is : List Ins) (q : Place) → AllByRecursion (IsInstruction p.registers) is → changes_place p q ≡ false → keeps_place is q ≡ true
+declared : (p : StraightLine) (is : List Ins) (q : MachinePlace) → AllByRecursion (IsInstruction p.registers) is → changes_place p q ≡ false → keeps_place is q ≡ true
 declared p [] q h out = refl
 declared p (i ∷ is) q h out = and_from _ _ (unwritten_by p.registers i q h.0 (changes_place p) (λ r. refl) (λ f. refl) out) (declared p is q h.1 out)
 

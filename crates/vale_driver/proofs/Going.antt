@@ -1,7 +1,7 @@
 -- What the loops over instructions and source files keep.
 use Rattle.std.proofs.Common.{◌≡◌, ℕ, ◌≤◌, true, List, Option, ◌++◌, map}
 use Rattle.std.specs.List.{AllByRecursion, list_all}
-use Rattle.x64_syntax.specs.declared.places.Place.{Place}
+use Rattle.x64_syntax.specs.declared.places.MachinePlace.{MachinePlace}
 use Rattle.x64_syntax.specs.declared.instructions.Ins.{Ins}
 use Rattle.term_core.specs.Terms.{Tm}
 use Rattle.x64_meaning.specs.Condition.{Versions, hypotheses, straight_hyps, first_versions, end_versions}
@@ -19,7 +19,7 @@ use Rattle.vale_driver.specs.inner.Phases.{source_views, scan, scan_view, Parsed
 pub record Hypotheses (old new : List Tm) (v : Versions) (k : ℕ) (rest all : List Ins) : Type 0 where
   pub hyps : new ++ hypotheses v rest ≡ old ++ straight_hyps all
   pub last : end_versions v rest ≡ end_versions first_versions all
-  pub few : (p : Place) → v p ≤ k
+  pub few : (p : MachinePlace) → v p ≤ k
   pub built : list_all is_built rest ≡ true
 
 abbrev pub bytes_of : List AFile → List (List ℕ)

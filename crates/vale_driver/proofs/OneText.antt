@@ -1,18 +1,16 @@
 -- A text or a state has one refusal at most, and none where it is read.
-use Rattle.std.proofs.Common.{◌≡◌, ℕ, List, Option, Some, None, sym, ap, ◌∙◌, subst, arith, inl, inr, ◌⊎◌, take, ◌+◌}
+use Rattle.std.proofs.Common.{◌≡◌, ℕ, List, Option, Some, None, sym, ap, ◌∙◌, subst, arith, inl, inr, ◌⊎◌}
 use Rattle.std.specs.Prelude.{position, Result, Ok, Err}
-use Rattle.std.proofs.lemmas.Option.{same_Some}
 use Rattle.x64_syntax.specs.declared.items.Item.{Item}
 use Rattle.gas_text.specs.declared.fault.AsmFault.{AsmFault}
 use Rattle.gas_text.specs.declared.fault.AsmFault.TheVariants as asm
-use Rattle.gas_text.specs.Gas.{gas_text}
-use Rattle.gas_text.specs.Text.{newlines, BadLine, Strays, ReadsAs, Refused}
+use Rattle.gas_text.specs.Text.{BadLine, Strays, ReadsAs, Refused}
 use Rattle.gas_text.proofs.Once.{one_list, only_read}
 use Rattle.gas_text.proofs.OneFault.{one_fault}
 use Rattle.x64_evaluator.specs.StateFile.{lines_of}
 use Rattle.x64_evaluator.proofs.OneState.{one_stop, no_stop}
 use Rattle.vale_driver.specs.declared.status.Refusal.{Refusal}
-use Rattle.vale_driver.specs.Texts.{TextRefused, long_text, line_text, label_text, TextRead, is_wide, is_named, WideRefused, Begun, StateRefused, long_state, line_state, BegunRefused, by_text, wide, nowhere, EvalRefused, before, behind, IsReport}
+use Rattle.vale_driver.specs.Texts.{TextRefused, long_text, line_text, label_text, TextRead, is_named, Begun, StateRefused, long_state, line_state, BegunRefused, by_text, nowhere, EvalRefused, before, behind, IsReport}
 use Rattle.vale_driver.specs.Words.{EvalWords}
 use Rattle.vale_driver.specs.Causes.{Cause, refusal_of}
 use Rattle.vale_driver.specs.Causes as cause
@@ -103,35 +101,18 @@ items_same text x y h k = one_list text x y h.reads k.reads
 no_place : {a : ℕ} → ◌≡◌ {A = Option ℕ} (Some a) None → ⊥
 no_place e = absurd cc
 
-wide_once : (file text : List ℕ) (r q : Refusal) → WideRefused file text r → WideRefused file text q → r ≡ q
-wide_once file text r q h k =
-    let same = items_same text h.items k.items h.read k.read in
-    let place = same_Some _ _ (sym h.first ∙ ap (position is_wide) same ∙ k.first) in
-    h.is
-    ∙ at_line (cause.WideInstruction file) _ _ (ap (λ is. newlines (gas_text (take h.place is)) + 1) same ∙ ap (λ n. newlines (gas_text (take n k.items)) + 1) place)
-    ∙ sym k.is
-
 module _ (e : EvalWords) (text : List ℕ) where
-  wide_apart : (items : List Item) (entry : Option ℕ) (r : Refusal) → Begun e text items entry → WideRefused e.text text r → ⊥
-  wide_apart items entry r b w = no_place (sym w.first ∙ ap (position is_wide) (items_same text w.items items w.read b.read) ∙ b.general)
-
   found_same : (x y : List Item) (a b : Option ℕ) → Begun e text x a → Begun e text y b → a ≡ b
   found_same x y a b h k = sym h.found ∙ ap (position (is_named e.entry)) (items_same text x y h.read k.read) ∙ k.found
 
   begun_once : (r q : Refusal) → BegunRefused e text r → BegunRefused e text q → r ≡ q
   begun_once r q (by_text x) (by_text y) = text_once e.text text r q x y
-  begun_once r q (by_text x) (wide y) = absurd (text_none e.text text r y.items y.read x)
   begun_once r q (by_text x) (nowhere items b is) = absurd (text_none e.text text r items b.read x)
-  begun_once r q (wide x) (by_text y) = absurd (text_none e.text text q x.items x.read y)
-  begun_once r q (wide x) (wide y) = wide_once e.text text r q x y
-  begun_once r q (wide x) (nowhere items b is) = absurd (wide_apart items None r b x)
   begun_once r q (nowhere items b is) (by_text y) = absurd (text_none e.text text q items b.read y)
-  begun_once r q (nowhere items b is) (wide y) = absurd (wide_apart items None q b y)
   begun_once r q (nowhere items b is) (nowhere items' b' is') = is ∙ sym is'
 
   begun_none : (items : List Item) (at : ℕ) (r : Refusal) → Begun e text items (Some at) → BegunRefused e text r → ⊥
   begun_none items at r b (by_text x) = text_none e.text text r items b.read x
-  begun_none items at r b (wide x) = wide_apart items (Some at) r b x
   begun_none items at r b (nowhere others k is) = no_place (found_same items others (Some at) None b k)
 
 state_once : (file st : List ℕ) (r q : Refusal) → StateRefused file st r → StateRefused file st q → r ≡ q

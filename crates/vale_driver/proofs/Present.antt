@@ -5,8 +5,8 @@ use Rattle.std.specs.List.{list_all}
 use Rattle.std.proofs.lemmas.Bool.{and_parts, false≢true}
 use Rattle.x64_syntax.specs.declared.places.Reg.{Reg as GeneralReg}
 use Rattle.x64_syntax.specs.declared.places.FlagName.TheVariants.{Cf, Zf, Sf, Of}
-use Rattle.x64_syntax.specs.declared.places.Place.{Place}
-use Rattle.x64_syntax.specs.declared.places.Place.TheVariants.{Reg, Xmm, Flag}
+use Rattle.x64_syntax.specs.declared.places.MachinePlace.{MachinePlace}
+use Rattle.x64_syntax.specs.declared.places.MachinePlace.TheVariants.{Reg, Xmm, Flag}
 use Rattle.x64_syntax.specs.declared.operands.Opr.{Opr}
 use Rattle.x64_syntax.specs.declared.instructions.AluOp.{AluOp}
 use Rattle.x64_syntax.specs.declared.instructions.AluOp.TheVariants.{Add}
@@ -37,7 +37,7 @@ passed_move old new d s h = h
 
 pub passed_addition : (registers : List ℕ) (flags : ℕ) (old : Versions) (op : AluOp) (d : GeneralReg) (s : Opr) → is_built (Alu op d s) ≡ true → versions_of registers flags ≡ next_versions old (Reg d ∷ []) → versions_of registers (flags + 1) ≡ next_versions old (writes (Alu op d s))
 passed_addition registers flags old Add d s built h = fun_ext at_place where
-  at_place : (p : Place) → versions_of registers (flags + 1) p ≡ next_versions old (writes (Alu Add d s)) p
+  at_place : (p : MachinePlace) → versions_of registers (flags + 1) p ≡ next_versions old (writes (Alu Add d s)) p
   at_place (Reg q) = ap (λ v. v (Reg q)) h
   at_place (Xmm x) = ap (λ v. v (Xmm x)) h
   at_place (Flag Cf) = ap (λ v. v (Flag Cf) + 1) h
@@ -47,7 +47,7 @@ passed_addition registers flags old Add d s built h = fun_ext at_place where
 passed_addition registers flags old _ d s built h = absurd (false≢true built)
 
 -- a place is written at most once
-next_few : (v : Versions) (k : ℕ) (ws : List Place) → ((p : Place) → v p ≤ k) → (p : Place) → next_versions v ws p ≤ k + 1
+next_few : (v : Versions) (k : ℕ) (ws : List MachinePlace) → ((p : MachinePlace) → v p ≤ k) → (p : MachinePlace) → next_versions v ws p ≤ k + 1
 next_few v k ws few p = by_test (among ws p) where
   by_test : (b : Bool) → cond b (v p + 1) (v p) ≤ k + 1
   by_test true = let h = few p in omega arith

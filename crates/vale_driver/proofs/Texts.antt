@@ -1,10 +1,10 @@
 -- Assembler texts and state files as they are fetched.
-use Rattle.std.proofs.Common.{◌≡◌, ℕ, suc, ◌≤◌, true, false, ◌⊎◌, inl, inr, refl, List, [], ◌∷◌, length, Option, Some, None, sym, ap, ◌∙◌, subst}
-use Rattle.std.specs.Prelude.{IfSome, Vec, Ok, position, slice_get}
-use Rattle.std.proofs.lemmas.Bool.{and_from, not-false, false≢true}
+use Rattle.std.proofs.Common.{◌≡◌, ℕ, ◌≤◌, true, ◌⊎◌, inl, inr, refl, List, [], length, Option, Some, None, sym, ap, ◌∙◌, subst}
+use Rattle.std.specs.Prelude.{IfSome, Vec, Ok, position}
+use Rattle.std.proofs.lemmas.Bool.{false≢true}
 use Rattle.x64_syntax.specs.declared.items.Item.TheVariants as item
 use Rattle.code_lower.proofs.First.{Passes, Fails, first, position_is, position_none}
-use Rattle.x64_evaluator.specs.Evaluated.{evaluation, way, are_general, is_general_item, is_entry, is_entry_at}
+use Rattle.x64_evaluator.specs.Evaluated.{evaluation, way, is_entry, is_entry_at}
 use Rattle.x64_evaluator.specs.Report.{report_text}
 use Rattle.std.specs.declared.alloc.Global.{Global}
 use Rattle.x64_syntax.specs.declared.items.Item.{Item}
@@ -12,7 +12,7 @@ use Rattle.x64_meaning.specs.State.{State}
 use Rattle.vale_driver.specs.declared.status.Refusal.{Refusal}
 use Rattle.vale_driver.specs.Words.{Read, Eval, EvalWords}
 use Rattle.vale_driver.specs.Limits.{text_limit, state_limit, trace_room}
-use Rattle.vale_driver.specs.Texts.{is_wide, is_named, TextRefused, long_text, TextRead, Begun, StateRead, StateRefused, long_state, BegunRefused, before, behind, listing_text}
+use Rattle.vale_driver.specs.Texts.{is_named, TextRefused, long_text, TextRead, Begun, StateRead, StateRefused, long_state, BegunRefused, before, behind, listing_text}
 use Rattle.vale_driver.specs.inner.Stops.{Fetched, FileHolds}
 use Rattle.vale_driver.specs.Commands.{IsRefused, WritesReading, WritesReport}
 use Rattle.vale_driver.specs.Causes.{refusal_of}
@@ -73,21 +73,7 @@ module _ (tells : List ℕ → Option (List ℕ)) (e : EvalWords) where
     report = record { items = items; at = at; begun = h.reads; start = start; read = k.reads; is = is };
   }
 
--- items without wide ones are general, and the entry found is one
-all_each : (items : List Item) → ((k : ℕ) (i : Item) → slice_get items k ≡ Some i → is_wide i ≡ false) → are_general items ≡ true
-all_each [] h = refl
-all_each (i ∷ is) h = and_from _ _ (not-false (is_general_item i) (h 0 i refl)) (all_each is (λ k. h (suc k)))
-
-pub all_general : (items : List Item) → position is_wide items ≡ None → are_general items ≡ true
-all_general items h = by (first is_wide items)
-  where
-    some_none : {a : ℕ} → ◌≡◌ {A = Option ℕ} (Some a) None → ⊥
-    some_none e = absurd cc
-
-    by : Passes is_wide items ⊎ Fails is_wide items → are_general items ≡ true
-    by (inl f) = absurd (some_none (sym (position_is is_wide items f) ∙ h))
-    by (inr f) = all_each items f.each
-
+-- the entry that is found is one
 pub entry_there : (name : List ℕ) (items : List Item) (at : ℕ) → position (is_named name) items ≡ Some at → is_entry_at items at ≡ true
 entry_there name items at h = by (first (is_named name) items)
   where

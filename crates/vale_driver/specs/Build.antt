@@ -1,7 +1,7 @@
 -- What a procedure without branches means: its contract, its condition and its code.
 use Rattle.std.specs.Prelude.{ℕ, Bool, true, false, List, [], ◌∷◌, None}
-use Rattle.x64_syntax.specs.declared.places.Place.{Place}
-use Rattle.x64_syntax.specs.declared.places.Place.TheVariants.{Reg, Xmm, Flag}
+use Rattle.x64_syntax.specs.declared.places.MachinePlace.{MachinePlace}
+use Rattle.x64_syntax.specs.declared.places.MachinePlace.TheVariants.{Reg, Xmm, Flag}
 use Rattle.x64_syntax.specs.declared.instructions.Ins.{Ins}
 use Rattle.x64_syntax.specs.declared.items.Item.{Item}
 use Rattle.x64_syntax.specs.Code.{Prog, Done, Step}
@@ -23,11 +23,11 @@ promise_exp (Old r q) = Bin bin.Eq (After (Reg r)) (Before (Reg q))
 promise_exp (Sum r q k) = Bin bin.Eq (After (Reg r)) (Bin bin.Add (Before (Reg q)) (W64 k))
 
 -- it reads its registers, and changes them and the flags
-abbrev pub reads_place : StraightLine → Place → Bool
+abbrev pub reads_place : StraightLine → MachinePlace → Bool
 reads_place p (Reg q) = has p.registers q
 reads_place p _ = false
 
-abbrev pub changes_place : StraightLine → Place → Bool
+abbrev pub changes_place : StraightLine → MachinePlace → Bool
 changes_place p (Reg q) = has p.registers q
 changes_place p (Xmm x) = false
 changes_place p (Flag f) = true

@@ -22,8 +22,6 @@ pub data Cause : Type 0 where
   NoLine : List ℕ → ℕ → Cause
   -- a jump on a line goes to a label that isn't in its piece
   NoLabel : List ℕ → ℕ → Cause
-  -- an instruction on xmm registers on a line, which isn't run yet
-  WideInstruction : List ℕ → ℕ → Cause
   -- a line of a state file sets nothing which may follow
   NoSetting : List ℕ → ℕ → Cause
   -- an assembler text has no entry of a name
@@ -49,7 +47,6 @@ refusal_of (NoStep cert name) =
     record { number = 11; file = Some cert; at = Some 2; who = Some (name ++ codes "()#0"); cause = codes "step 0" }
 refusal_of (NoLine file line) = in_file 12 (Some file) (Some line) (codes "Line")
 refusal_of (NoLabel file line) = in_file 12 (Some file) (Some line) (codes "Label")
-refusal_of (WideInstruction file line) = in_file 12 (Some file) (Some line) (codes "NotBuilt")
 refusal_of (NoSetting file line) = in_file 13 (Some file) (Some line) (codes "State")
 refusal_of (NoEntry file entry) =
     record { number = 14; file = Some file; at = None; who = Some entry; cause = codes "NoEntry" }

@@ -1,18 +1,17 @@
 -- Assembler texts that are read and run: why they are refused, and what is told of them.
-use Rattle.std.specs.Prelude.{◌≡◌, ℕ, ◌+◌, ◌<◌, ◌≤◌, Bool, false, not, List, [], ◌∷◌, ◌++◌, length, take, Option, Some, None, codes, position}
+use Rattle.std.specs.Prelude.{◌≡◌, ℕ, ◌<◌, ◌≤◌, Bool, false, List, [], ◌∷◌, ◌++◌, length, Option, Some, None, codes, position}
 use Rattle.std.specs.Str.{bytes_eq}
 use Rattle.x64_syntax.specs.declared.items.Item.{Item}
 use Rattle.x64_syntax.specs.declared.items.Item.TheVariants.{Entry}
 use Rattle.asm_lines.specs.Listing.{listing}
-use Rattle.gas_text.specs.Gas.{gas_text}
-use Rattle.gas_text.specs.Text.{newlines, BadLine, Strays, ReadsAs}
+use Rattle.gas_text.specs.Text.{BadLine, Strays, ReadsAs}
 use Rattle.x64_meaning.specs.State.{State}
 use Rattle.x64_evaluator.specs.StateFile.{lines_of, IsStateOf, StopsAt}
-use Rattle.x64_evaluator.specs.Evaluated.{evaluation, way, is_general_item}
+use Rattle.x64_evaluator.specs.Evaluated.{evaluation, way}
 use Rattle.x64_evaluator.specs.Report.{report_text}
 use Rattle.vale_driver.specs.declared.status.Refusal.{Refusal}
 use Rattle.vale_driver.specs.Limits.{text_limit, state_limit, trace_room}
-use Rattle.vale_driver.specs.Causes.{refusal_of, TooLong, NoLine, NoLabel, WideInstruction, NoSetting, NoEntry}
+use Rattle.vale_driver.specs.Causes.{refusal_of, TooLong, NoLine, NoLabel, NoSetting, NoEntry}
 use Rattle.vale_driver.specs.Words.{EvalWords}
 
 -- a text that is too long, its first line that isn't one, or the first jump whose label isn't in its piece
@@ -41,22 +40,9 @@ abbrev pub is_named : List ℕ → Item → Bool
 is_named name (Entry other) = bytes_eq other name
 is_named name _ = false
 
--- an instruction on xmm registers
-abbrev pub is_wide : Item → Bool
-is_wide i = not (is_general_item i)
-
--- The first instruction on xmm registers, by the number of its line.
-pub record WideRefused (file text : List ℕ) (r : Refusal) : Type 0 where
-  pub items : List Item
-  pub read : TextRead text items
-  pub place : ℕ
-  pub first : position is_wide items ≡ Some place
-  pub is : r ≡ refusal_of (WideInstruction file (newlines (gas_text (take place items)) + 1))
-
--- The items of a text without such instructions, and where the entry is.
+-- The items of a text, and where the entry is.
 pub record Begun (e : EvalWords) (text : List ℕ) (items : List Item) (entry : Option ℕ) : Type 0 where
   pub read : TextRead text items
-  pub general : position is_wide items ≡ None
   pub found : position (is_named e.entry) items ≡ entry
 
 -- the state of a state file, or why there is none
@@ -71,7 +57,6 @@ pub data StateRefused (file state : List ℕ) (r : Refusal) : Type 0 where
 -- a text that can't be run, or that has no such entry
 pub data BegunRefused (e : EvalWords) (text : List ℕ) (r : Refusal) : Type 0 where
   by_text : TextRefused e.text text r → BegunRefused e text r
-  wide : WideRefused e.text text r → BegunRefused e text r
   nowhere : (items : List Item) → Begun e text items None → r ≡ refusal_of (NoEntry e.text e.entry) → BegunRefused e text r
 
 -- The text's refusals come before the state's.

@@ -29,8 +29,6 @@ pub(crate) enum Cause<'a> {
     NoLine(&'a str, u64),
     /// A jump on the line goes to a label that isn't in its piece.
     NoLabel(&'a str, u64),
-    /// The instruction on the line is one on xmm registers, which isn't run yet.
-    WideInstruction(&'a str, u64),
     /// The line of the state file sets nothing which may follow.
     NoSetting(&'a str, u64),
     /// The assembler text has no entry of the name.
@@ -114,9 +112,6 @@ pub(crate) fn refusal_of(alloc: Global, cause: Cause<'_>) -> Result<Refusal, NoM
         Cause::NoStep(file, name) => no_step(alloc, file, name),
         Cause::NoLine(file, line) => in_file(alloc, 12, Some(file), Some(line), b"Line"),
         Cause::NoLabel(file, line) => in_file(alloc, 12, Some(file), Some(line), b"Label"),
-        Cause::WideInstruction(file, line) => {
-            in_file(alloc, 12, Some(file), Some(line), b"NotBuilt")
-        }
         Cause::NoSetting(file, line) => in_file(alloc, 13, Some(file), Some(line), b"State"),
         Cause::NoEntry(file, entry) => no_entry(alloc, file, entry),
     }

@@ -2,8 +2,8 @@
 
 ghost use Rattle.std.specs.Prelude.{◌≡◌, ◌<◌, ◌+◌, ◌^◌, ◌++◌, pos, true, length, map, Ok, IfOk, OnOk};
 ghost use Rattle.std.specs.List.{list_all};
-ghost use Rattle.x64_syntax.specs.declared.places.Place.{Place as APlace};
-ghost use Rattle.x64_syntax.specs.declared.places.Place.TheVariants as place;
+ghost use Rattle.x64_syntax.specs.declared.places.MachinePlace.{MachinePlace as APlace};
+ghost use Rattle.x64_syntax.specs.declared.places.MachinePlace.TheVariants as place;
 ghost use Rattle.term_core.specs.declared.operator.BinOp.TheVariants as bin;
 ghost use Rattle.term_core.specs.Terms.{tree, trees};
 ghost use Rattle.term_core.specs.Terms as tm;
@@ -19,7 +19,7 @@ use std::alloc::{AllocError as NoMemory, Global};
 use straight_line::{Promise, StraightLine};
 use term_core::{BinOp, Sequent, Term, UnOp};
 use x64_meaning::version;
-use x64_syntax::{AluOp, FlagName, Ins, Opr, Place, Reg};
+use x64_syntax::{AluOp, FlagName, Ins, MachinePlace, Opr, Reg};
 
 /// 2^64, from which a sum of words carries, and 2^63, from which a word is negative.
 const CARRIES_FROM: i128 = 1 << 64;
@@ -72,7 +72,7 @@ fn source(alloc: Global, versions: &Versions, s: &Opr) -> Result<Term, NoMemory>
     ensures { IfOk result (λ t. tree t ≡ term (present_versions versions.now) (source s.now)) }
 {
     match s {
-        Opr::R(r) => version(alloc, Place::Reg(*r), versions.register(*r)),
+        Opr::R(r) => version(alloc, MachinePlace::Reg(*r), versions.register(*r)),
         Opr::Imm(n) => Ok(Term::W64(n.cast_unsigned())),
         Opr::M(_) => Ok(Term::W64(0)),
     }
@@ -100,7 +100,11 @@ impl<'a> Written<'a> {
     fn before(&self, alloc: Global) -> Result<Term, NoMemory>
         ensures { IfOk result (λ t. tree t ≡ term (present_versions self.now.versions.now) (Before (place.Reg self.now.d))) }
     {
-        version(alloc, Place::Reg(self.d), self.versions.register(self.d))
+        version(
+            alloc,
+            MachinePlace::Reg(self.d),
+            self.versions.register(self.d),
+        )
     }
 
     fn after(&self, alloc: Global) -> Result<Term, NoMemory>
@@ -108,7 +112,7 @@ impl<'a> Written<'a> {
     {
         version(
             alloc,
-            Place::Reg(self.d),
+            MachinePlace::Reg(self.d),
             self.versions.register(self.d) + 1,
         )
     }
@@ -116,7 +120,7 @@ impl<'a> Written<'a> {
     fn flag(&self, alloc: Global, flag: FlagName) -> Result<Term, NoMemory>
         ensures { IfOk result (λ t. tree t ≡ term (present_versions self.now.versions.now) (After (place.Flag flag))) }
     {
-        version(alloc, Place::Flag(flag), self.versions.flags() + 1)
+        version(alloc, MachinePlace::Flag(flag), self.versions.flags() + 1)
     }
 
     // The register afterwards is this.
@@ -322,12 +326,15 @@ fn promise(alloc: Global, last: &Versions, promise: Promise) -> Result<Term, NoM
 {
     let (reg, wanted) = match promise {
         Promise::Constant(reg, k) => (reg, Term::W64(k)),
-        Promise::Old(reg, old) => (reg, version(alloc, Place::Reg(old), 0)?),
+        Promise::Old(reg, old) => (reg, version(alloc, MachinePlace::Reg(old), 0)?),
         Promise::Sum(reg, old, k) => {
-            let begin = version(alloc, Place::Reg(old), 0)?;
+            let begin = version(alloc, MachinePlace::Reg(old), 0)?;
             (reg, binary(alloc, BinOp::Add, begin, Term::W64(k))?)
         }
     };
-    let (wanted, end) = with(wanted, version(alloc, Place::Reg(reg), last.register(reg)))?;
+    let (wanted, end) = with(
+        wanted,
+        version(alloc, MachinePlace::Reg(reg), last.register(reg)),
+    )?;
     binary(alloc, BinOp::Eq, end, wanted)
 }

@@ -3,7 +3,7 @@
 ghost use Rattle.std.specs.Prelude.{◌≡◌, ◌≤◌, ℕ, List, Some, position, IsTrue, IfOk, IfErr};
 ghost use Rattle.vale_outside.specs.Outside.{Rose};
 ghost use Rattle.vale_driver.specs.Words.{Eval};
-ghost use Rattle.vale_driver.specs.Texts.{Begun, BegunRefused, StateRead, StateRefused, is_wide, is_named};
+ghost use Rattle.vale_driver.specs.Texts.{Begun, BegunRefused, StateRead, StateRefused, is_named};
 ghost use Rattle.vale_driver.specs.inner.Phases.{eval_of};
 ghost use Rattle.vale_driver.specs.inner.Stops.{StopsBy, FileHolds};
 ghost use Rattle.vale_driver.specs.Commands.{IsRefused, WritesReport};
@@ -12,10 +12,9 @@ use crate::cause::{Cause, refusal_of};
 use crate::read::read_text;
 use crate::stop::{Stop, fetch};
 use crate::words::EvalWords;
-use gas_text::line_of;
 use std::alloc::Global;
 use vale_outside::Store;
-use x64_evaluator::{StateFault, Trace, is_general_item, read_state, report_of, run_items};
+use x64_evaluator::{StateFault, Trace, read_state, report_of, run_items};
 use x64_meaning::Machine;
 use x64_syntax::Item;
 
@@ -24,13 +23,6 @@ const STATE_LIMIT: usize = 16777216;
 
 /// The room for observations.
 const TRACE_ROOM: usize = 1048576;
-
-// The first item on xmm registers.
-fn first_wide(items: &[Item]) -> Option<usize>
-    ensures { result ≡ position is_wide items.now }
-{
-    items.iter().position(|item| !is_general_item(item))
-}
 
 fn is_named(item: &Item, name: &[u8]) -> bool
     ensures { result ≡ is_named name.now item.now }
@@ -61,11 +53,6 @@ fn begin<S: Store>(
     ensures same_files { (n : List ℕ) → S.tells store.new n ≡ S.tells store.old n }
 {
     let items = read_text(alloc, store, words.text)?;
-    if let Some(place) = first_wide(&items) {
-        let line = line_of(&items, place);
-        let refusal = refusal_of(alloc, Cause::WideInstruction(words.text, line))?;
-        return Err(Stop::Refused(refusal));
-    }
     match entry_named(&items, words.entry.as_bytes()) {
         Some(entry) => Ok((items, entry)),
         None => {

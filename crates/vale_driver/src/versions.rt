@@ -1,8 +1,8 @@
 // How often the places were written so far.
 
 ghost use Rattle.std.specs.Prelude.{◌≡◌, ◌+◌, ◌<◌, ◌^◌, ◌∷◌, [], true};
-ghost use Rattle.x64_syntax.specs.declared.places.Place.{Place as APlace};
-ghost use Rattle.x64_syntax.specs.declared.places.Place.TheVariants as place;
+ghost use Rattle.x64_syntax.specs.declared.places.MachinePlace.{MachinePlace as APlace};
+ghost use Rattle.x64_syntax.specs.declared.places.MachinePlace.TheVariants as place;
 ghost use Rattle.x64_meaning.specs.Table.{writes};
 ghost use Rattle.x64_meaning.specs.Condition.{first_versions, next_versions};
 ghost use Rattle.vale_driver.specs.inner.ConditionTerms.{is_built, present_versions};

@@ -1,9 +1,17 @@
-//! Operations on words of 64 bits: sums with carry, differences with borrow, products, rotations and bytes. Each call
-//! is its formula over whole numbers (`specs/Words.antt`).
+//! Operations on words. Of 64 bits: sums with carry, differences with borrow, products, rotations and bytes
+//! (`specs/Words.antt`). Of 128 bits: halves, sums, shifts and choices of four numbers of 32 bits or of sixteen bytes
+//! (`specs/Words128.antt`). Each call is its formula over whole numbers.
 #![tactic(auto)]
+
+mod wide;
 
 ghost use Rattle.std.specs.Prelude.{◌≡◌, ◌<◌};
 ghost use Rattle.word_ops.specs.Words.{sum, carries, difference, borrows, upper, lower, rol, ror, bytes_of};
+
+pub use wide::{
+    bytes_left, bytes_right, high_word, lanes32_add, lanes32_left, lanes32_right, low_word,
+    pair_words, shuffle_bytes, shuffle_dwords,
+};
 
 /// `a + b + c` modulo 2^64, and the carry.
 pub fn add_carry(a: u64, b: u64, c: bool) -> (u64, bool)

@@ -1,10 +1,10 @@
 // Blocks that lie apart.
 
 ghost use Rattle.std.specs.Prelude.{◌≡◌, ◌≤◌, ◌<◌, ◌+◌, ◌^◌, ◌↔◌, ◌++◌, ◌∷◌, [], length, true, OnOk, OnErr, IfSome};
-ghost use Rattle.std.specs.Int.{to_le_bytes, w64, w128};
+ghost use Rattle.std.specs.Int.{to_le_bytes, w32, w64, w128};
 ghost use Rattle.std.specs.List.{find, list_any};
 ghost use Rattle.std.specs.Option.{option_copied};
-ghost use Rattle.x64_blocks.specs.Memory.{Range, IsMemory, block_at, meets, access_bytes, load, store, or_outside, Stores};
+ghost use Rattle.x64_blocks.specs.Memory.{Range, IsMemory, block_at, holds, meets, access_bytes, load, store, or_outside, Stores};
 
 use crate::block::{Block, le_number};
 use std::alloc::Global;
@@ -72,6 +72,35 @@ impl Blocks {
         }
     }
 
+    /// Whether one block holds all bytes of an access.
+    pub fn holds(&self, address: u64, size: u8) -> bool
+        ensures { result ≡ list_any (holds address size) self.now }
+    {
+        self.blocks
+            .iter()
+            .any(|block| block.holds(address, usize::from(size)))
+    }
+
+    /// The byte at an address.
+    pub fn load1(&self, address: u64) -> Result<u8, Outside>
+        ensures { result ≡ or_outside (load self.now address 1) }
+    {
+        match access(&self.blocks, address, 1) {
+            Some(bytes) => Ok(le_number(bytes) as u8),
+            None => Err(Outside),
+        }
+    }
+
+    /// The little-endian number in 4 bytes.
+    pub fn load4(&self, address: u64) -> Result<u32, Outside>
+        ensures { result ≡ or_outside (load self.now address 4) }
+    {
+        match access(&self.blocks, address, 4) {
+            Some(bytes) => Ok(le_number(bytes) as u32),
+            None => Err(Outside),
+        }
+    }
+
     /// The little-endian number in 8 bytes.
     pub fn load8(&self, address: u64) -> Result<u64, Outside>
         ensures { result ≡ or_outside (load self.now address 8) }
@@ -90,6 +119,13 @@ impl Blocks {
             Some(bytes) => Ok(le_number(bytes)),
             None => Err(Outside),
         }
+    }
+
+    /// Stores a number in 4 bytes. A refusal changes nothing.
+    pub fn store4(&mut self, address: u64, v: u32) -> Result<(), Outside>
+        ensures { Stores (store self.old address (to_le_bytes w32 v)) self.old self.new result }
+    {
+        self.store(address, &v.to_le_bytes())
     }
 
     /// Stores a number in 8 bytes. A refusal changes nothing.

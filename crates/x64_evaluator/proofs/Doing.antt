@@ -4,14 +4,14 @@ use Rattle.std.specs.Prelude.{Result, Ok, Err, nat_le, if◌then◌else◌}
 use Rattle.std.proofs.lemmas.Bool.{le-leb, lt-leb}
 use Rattle.std.proofs.lemmas.List.{length_push}
 use Rattle.x64_syntax.specs.declared.places.FlagName.{FlagName}
-use Rattle.x64_syntax.specs.declared.places.Place.TheVariants.{Flag}
+use Rattle.x64_syntax.specs.declared.places.MachinePlace.TheVariants.{Flag}
 use Rattle.x64_syntax.specs.declared.instructions.Ins.{Ins}
 use Rattle.x64_blocks.specs.Memory.{Range, store}
 use Rattle.x64_meaning.specs.declared.machine.Obs.{Obs}
 use Rattle.x64_meaning.specs.declared.machine.Fault.{Fault}
 use Rattle.x64_meaning.specs.State.{State, load}
-use Rattle.x64_meaning.specs.Table.{stored_words, reads}
-use Rattle.x64_meaning.specs.Run.{Outcome, Done, Faulted, Access, No, Loads, Stores, access, with_access, with_loaded, with_stored, with_flags, does, bytes_of, first_undefined}
+use Rattle.x64_meaning.specs.Table.{store_size, reads}
+use Rattle.x64_meaning.specs.Run.{Outcome, Done, Faulted, Access, No, Loads, Stores, access, with_access, with_loaded, with_stored, with_flags, does, stored_bytes, first_undefined}
 use Rattle.x64_meaning.specs.inner.Steps.{Steps, Foresees, last_of}
 use Rattle.x64_evaluator.specs.declared.end.End.{End}
 use Rattle.x64_evaluator.specs.declared.end.End.TheVariants as end
@@ -40,7 +40,7 @@ does_once i s None = by_access (access s i) where
   by_access : (x : Access) → Once (with_access s i x)
   by_access No = refl
   by_access (Loads a size) = by_load a size (load s a size)
-  by_access (Stores a) = by_store a (length (bytes_of s (stored_words i))) (store s.blocks a (bytes_of s (stored_words i)))
+  by_access (Stores a) = by_store a (store_size i) (store s.blocks a (stored_bytes s i))
 
 pub once : (i : Ins) (s : State) → Once (does i s)
 once i s = does_once i s (first_undefined (λ f. reads i (Flag f)) s)

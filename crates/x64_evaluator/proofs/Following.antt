@@ -4,8 +4,8 @@ use Rattle.std.specs.Prelude.{Result, Ok, Err, IfOk}
 use Rattle.std.specs.List.{list_any}
 use Rattle.std.proofs.lemmas.Bool.{and_parts, and_from, and_right, lt-ltb, le-leb, lt-leb, false≢true}
 use Rattle.std.proofs.lemmas.List.{append-nil}
-use Rattle.x64_syntax.specs.declared.places.Place.{Place}
-use Rattle.x64_syntax.specs.declared.places.Place.TheVariants.{Reg, Xmm, Flag}
+use Rattle.x64_syntax.specs.declared.places.MachinePlace.{MachinePlace}
+use Rattle.x64_syntax.specs.declared.places.MachinePlace.TheVariants.{Reg, Xmm, Flag}
 use Rattle.x64_syntax.specs.Places.{place_eq}
 use Rattle.x64_syntax.specs.PlaceSets.{in_set}
 use Rattle.x64_blocks.specs.Memory.{Range, meets}
@@ -36,7 +36,7 @@ allowed_more before (t ∷ ts) s h k =
     and_from _ _ p.0 (allowed_more (before ++ t ∷ []) ts s p.1 (ap (λ l. may_follow l s) (append_assoc before (t ∷ []) ts) ∙ k))
 
 -- whether a value clashes doesn't depend on the number
-same_clash : (p : Place) (n : ℕ) (ss : List Setting) → list_any (clashes (Value p n)) ss ≡ list_any (sets p) ss
+same_clash : (p : MachinePlace) (n : ℕ) (ss : List Setting) → list_any (clashes (Value p n)) ss ≡ list_any (sets p) ss
 same_clash p n [] = refl
 same_clash p n (Value q m ∷ ss) = ap (λ b. place_eq p q || b) (same_clash p n ss)
 same_clash p n (Block b ∷ ss) = same_clash p n ss
@@ -78,7 +78,7 @@ clashing : (ss : List Setting) (s : Setting) → list_any (clashes s) ss ≡ tru
 clashing ss s some_ h = false≢true (sym (ap not some_) ∙ (and_parts (fits s) _ h).1)
 
 -- a value that its place has not yet
-pub value_taken : (ss : List Setting) (p : Place) (n : ℕ) (old new : StateReader) → Holds ss old → n < limit p → in_set old.set p ≡ false → new.machine ≡ with_setting old.machine (Value p n) → ((q : Place) → in_set new.set q ≡ (place_eq q p || in_set old.set q)) → Takes ss (λ s. s ≡ Value p n) true new
+pub value_taken : (ss : List Setting) (p : MachinePlace) (n : ℕ) (old new : StateReader) → Holds ss old → n < limit p → in_set old.set p ≡ false → new.machine ≡ with_setting old.machine (Value p n) → ((q : MachinePlace) → in_set new.set q ≡ (place_eq q p || in_set old.set q)) → Takes ss (λ s. s ≡ Value p n) true new
 value_taken ss p n old new h lt none machine places = (
   Value p n,
   refl,
@@ -89,7 +89,7 @@ value_taken ss p n old new h lt none machine places = (
   },
 )
 
-pub value_refused : (ss : List Setting) (p : Place) (n : ℕ) (old new : StateReader) → Holds ss old → in_set old.set p ≡ true → Takes ss (λ s. s ≡ Value p n) false new
+pub value_refused : (ss : List Setting) (p : MachinePlace) (n : ℕ) (old new : StateReader) → Holds ss old → in_set old.set p ≡ true → Takes ss (λ s. s ≡ Value p n) false new
 value_refused ss p n old new h some_ s is follow =
     clashing ss (Value p n) (same_clash p n ss ∙ sym (h.places p) ∙ some_) (ap (may_follow ss) (sym is) ∙ follow)
 

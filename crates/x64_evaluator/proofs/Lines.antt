@@ -7,7 +7,7 @@ use Rattle.std.proofs.lemmas.Str.{IsUtf8-from_ascii, IsAscii-append}
 use Rattle.std.proofs.lemmas.Str.Ascii.{IsAscii-cons}
 use Rattle.hex.specs.Hex.{lower_digits}
 use Rattle.hex.proofs.HexLemmas.{IsAscii-encode_with}
-use Rattle.x64_syntax.specs.declared.places.Place.{Place}
+use Rattle.x64_syntax.specs.declared.places.MachinePlace.{MachinePlace}
 use Rattle.x64_syntax.specs.Places.{place_name}
 use Rattle.x64_blocks.specs.Memory.{Range}
 use Rattle.x64_evaluator.specs.declared.state.StateReader.{StateReader}
@@ -27,7 +27,7 @@ bytes_ascii (b ∷ bs) = IsAscii-encode_with lower_digits (b ∷ bs) (ascii lowe
 behind_blank : (xs ys : List ℕ) → IsAscii xs → IsAscii ys → IsAscii (xs ++ 32 ∷ ys)
 behind_blank xs ys a b = IsAscii-append xs (32 ∷ ys) a (IsAscii-cons 32 ys (omega arith) b)
 
-pub value_fits : (p : Place) (n : ℕ) → fits (Value p n) ≡ true → n < limit p
+pub value_fits : (p : MachinePlace) (n : ℕ) → fits (Value p n) ≡ true → n < limit p
 value_fits p n h = ltb-true n (limit p) h
 
 pub range_fits : (b : Range) → fits (Block b) ≡ true → are_bytes b ≡ true
@@ -84,7 +84,7 @@ module _ (ss : List Setting) (line word rest : List ℕ) (cut : line ≡ word ++
   sets_no_block new is only (Block c) h k = only c (range_fits c (and_parts (fits (Block c)) _ k).0) (sym (parts (Block c) h).1)
 
   -- a line of a value sets only that value
-  pub sets_value : (new : StateReader) (p : Place) (n : ℕ) (yes : Bool) → (word ≡ codes "block" → ⊥) → value_text p n ≡ line → ((q : Place) (m : ℕ) → m < limit q → value_text q m ≡ line → (p ≡ q) × (n ≡ m)) → Takes ss (λ s. s ≡ Value p n) yes new → Takes ss (λ s. setting_text s ≡ line) yes new
+  pub sets_value : (new : StateReader) (p : MachinePlace) (n : ℕ) (yes : Bool) → (word ≡ codes "block" → ⊥) → value_text p n ≡ line → ((q : MachinePlace) (m : ℕ) → m < limit q → value_text q m ≡ line → (p ≡ q) × (n ≡ m)) → Takes ss (λ s. s ≡ Value p n) yes new → Takes ss (λ s. setting_text s ≡ line) yes new
   sets_value new p n true other text only takes = (takes.0, ap setting_text takes.1 ∙ text, takes.2, takes.3)
   sets_value new p n false other text only takes = no_other
     where
@@ -94,6 +94,6 @@ module _ (ss : List Setting) (line word rest : List ℕ) (cut : line ≡ word ++
           takes (Value q m) (ap (λ r. Value r m) (sym same.0) ∙ ap (Value p) (sym same.1)) k
       no_other (Block c) h k = other (parts (Block c) h).0
 
-  pub sets_no_value : (new : StateReader) → (word ≡ codes "block" → ⊥) → ((q : Place) (m : ℕ) → m < limit q → value_text q m ≡ line → ⊥) → Takes ss (λ s. setting_text s ≡ line) false new
+  pub sets_no_value : (new : StateReader) → (word ≡ codes "block" → ⊥) → ((q : MachinePlace) (m : ℕ) → m < limit q → value_text q m ≡ line → ⊥) → Takes ss (λ s. setting_text s ≡ line) false new
   sets_no_value new other only (Value q m) h k = only q m (value_fits q m (and_parts (fits (Value q m)) _ k).0) h
   sets_no_value new other only (Block c) h k = other (parts (Block c) h).0

@@ -13,8 +13,8 @@ use Rattle.x64_syntax.specs.declared.places.Xmm.{Xmm as XmmReg}
 use Rattle.x64_syntax.specs.declared.places.Xmm.TheVariants.{Xmm0, Xmm1, Xmm2, Xmm3, Xmm4, Xmm5, Xmm6, Xmm7, Xmm8, Xmm9, Xmm10, Xmm11, Xmm12, Xmm13, Xmm14, Xmm15}
 use Rattle.x64_syntax.specs.declared.places.FlagName.{FlagName}
 use Rattle.x64_syntax.specs.declared.places.FlagName.TheVariants.{Cf, Zf, Sf, Of}
-use Rattle.x64_syntax.specs.declared.places.Place.{Place}
-use Rattle.x64_syntax.specs.declared.places.Place.TheVariants.{Reg, Xmm, Flag}
+use Rattle.x64_syntax.specs.declared.places.MachinePlace.{MachinePlace}
+use Rattle.x64_syntax.specs.declared.places.MachinePlace.TheVariants.{Reg, Xmm, Flag}
 use Rattle.x64_syntax.specs.Places.{place_name, reg_name, xmm_name, flag_name, reg_of, xmm_of, flag_of}
 use Rattle.x64_blocks.specs.Memory.{Range}
 use Rattle.x64_meaning.specs.State.{State}
@@ -25,12 +25,12 @@ use Rattle.x64_evaluator.proofs.Texts.{cut_same, few_digits}
 use Rattle.x64_evaluator.proofs.Taken.{small, some_items, same_ok, range_base, range_bytes, base_blankless}
 use Rattle.x64_evaluator.proofs.Lines.{word_blankless, value_fits, range_fits}
 
-abbrev or_else : Option Place → Option Place → Option Place
+abbrev or_else : Option MachinePlace → Option MachinePlace → Option MachinePlace
 or_else (Some p) o = Some p
 or_else None o = o
 
 -- what a name names
-abbrev place_of : List ℕ → Option Place
+abbrev place_of : List ℕ → Option MachinePlace
 place_of name = or_else (option_map Reg (reg_of name)) (or_else (option_map Xmm (xmm_of name)) (option_map Flag (flag_of name)))
 
 reg_back : (r : GeneralReg) → place_of (reg_name r) ≡ Some (Reg r)
@@ -75,12 +75,12 @@ flag_back Zf = refl
 flag_back Sf = refl
 flag_back Of = refl
 
-named_back : (p : Place) → place_of (place_name p) ≡ Some p
+named_back : (p : MachinePlace) → place_of (place_name p) ≡ Some p
 named_back (Reg r) = reg_back r
 named_back (Xmm x) = xmm_back x
 named_back (Flag f) = flag_back f
 
-same_place : (p q : Place) → place_name p ≡ place_name q → p ≡ q
+same_place : (p q : MachinePlace) → place_name p ≡ place_name q → p ≡ q
 same_place p q e = same_Some _ _ (sym (named_back p) ∙ ap place_of e ∙ named_back q)
 
 same_number : (m n : ℕ) → m < 2 ^ 128 → n < 2 ^ 128 → decimal m ≡ decimal n → m ≡ n

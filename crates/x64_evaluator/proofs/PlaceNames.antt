@@ -8,8 +8,8 @@ use Rattle.x64_syntax.specs.declared.places.Xmm.{Xmm as XmmReg}
 use Rattle.x64_syntax.specs.declared.places.Xmm.TheVariants.{Xmm0, Xmm1, Xmm2, Xmm3, Xmm4, Xmm5, Xmm6, Xmm7, Xmm8, Xmm9, Xmm10, Xmm11, Xmm12, Xmm13, Xmm14, Xmm15}
 use Rattle.x64_syntax.specs.declared.places.FlagName.{FlagName}
 use Rattle.x64_syntax.specs.declared.places.FlagName.TheVariants.{Cf, Zf, Sf, Of}
-use Rattle.x64_syntax.specs.declared.places.Place.{Place}
-use Rattle.x64_syntax.specs.declared.places.Place.TheVariants.{Reg, Xmm, Flag}
+use Rattle.x64_syntax.specs.declared.places.MachinePlace.{MachinePlace}
+use Rattle.x64_syntax.specs.declared.places.MachinePlace.TheVariants.{Reg, Xmm, Flag}
 use Rattle.x64_syntax.specs.Places.{reg_name, xmm_name, flag_name, place_name}
 use Rattle.x64_evaluator.specs.inner.Setting.{is_word, graphic}
 
@@ -55,15 +55,15 @@ flag_word Zf = refl
 flag_word Sf = refl
 flag_word Of = refl
 
-pub name_word : (p : Place) → is_word (place_name p) ≡ true
+pub name_word : (p : MachinePlace) → is_word (place_name p) ≡ true
 name_word (Reg r) = reg_word r
 name_word (Xmm x) = xmm_word x
 name_word (Flag f) = flag_word f
 
-pub name_graphic : (p : Place) → graphic (place_name p) ≡ true
+pub name_graphic : (p : MachinePlace) → graphic (place_name p) ≡ true
 name_graphic p = (and_parts (graphic (place_name p)) _ (name_word p)).0
 
-pub no_block : (p : Place) → codes "block" ≡ place_name p → ⊥
+pub no_block : (p : MachinePlace) → codes "block" ≡ place_name p → ⊥
 no_block p e =
     let differs = not-true (bytes_eq (place_name p) (codes "block")) (and_parts (graphic (place_name p)) _ (name_word p)).1 in
     false≢true (sym differs ∙ (bytes_eq-Decides (place_name p) (codes "block")).1 (sym e))

@@ -8,8 +8,8 @@ use Rattle.std.proofs.lemmas.Option.{same_Some}
 use Rattle.hex.specs.Hex.{IsBytes, encode_lower, lower_digits, decode_of}
 use Rattle.hex.specs.declared.error.FromHexError.{FromHexError}
 use Rattle.hex.proofs.HexLemmas.{length-encode_with, decode_of-encode_lower}
-use Rattle.x64_syntax.specs.declared.places.Place.{Place}
-use Rattle.x64_syntax.specs.declared.places.Place.TheVariants.{Reg, Xmm, Flag}
+use Rattle.x64_syntax.specs.declared.places.MachinePlace.{MachinePlace}
+use Rattle.x64_syntax.specs.declared.places.MachinePlace.TheVariants.{Reg, Xmm, Flag}
 use Rattle.x64_syntax.specs.Places.{place_name}
 use Rattle.x64_blocks.specs.Memory.{Range}
 use Rattle.x64_evaluator.specs.StateFile.{value_text, bytes_text, limit, are_bytes}
@@ -17,7 +17,7 @@ use Rattle.x64_evaluator.specs.inner.Setting.{Blankless}
 use Rattle.x64_evaluator.proofs.PlaceNames.{name_graphic}
 use Rattle.x64_evaluator.proofs.Texts.{blankless, cut_same, number_blankless}
 
-pub small : (p : Place) (n : ℕ) → n < limit p → n < 2 ^ 128
+pub small : (p : MachinePlace) (n : ℕ) → n < limit p → n < 2 ^ 128
 small (Reg r) n lt = omega (arith, lt)
 small (Xmm x) n lt = lt
 small (Flag f) n lt = omega (arith, lt)
@@ -35,7 +35,7 @@ pub pair_first : {X Y : Type 0} {a b : X} {x y : Y} → ◌≡◌ {A = Option (X
 pair_first e = let p = same_Some _ _ e in (ap (λ q. q.0) p, ap (λ q. q.1) p)
 
 -- the two words of a value
-pub value_cut : (p : Place) (n : ℕ) (word rest : List ℕ) → Blankless word → value_text p n ≡ word ++ (codes " " ++ rest) → (word ≡ place_name p) × (rest ≡ decimal n)
+pub value_cut : (p : MachinePlace) (n : ℕ) (word rest : List ℕ) → Blankless word → value_text p n ≡ word ++ (codes " " ++ rest) → (word ≡ place_name p) × (rest ≡ decimal n)
 value_cut p n word rest h e = cut_same word rest (place_name p) (decimal n) h (blankless (place_name p) (name_graphic p)) (sym e)
 
 pub some_items : (bytes : List ℕ) → bytes_text bytes ≡ codes "-" → bytes ≡ []

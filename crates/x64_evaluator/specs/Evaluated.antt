@@ -1,11 +1,9 @@
 -- Runs of items whose observations are kept, as far as there is room for them.
 use Rattle.std.specs.Prelude.{◌≡◌, ◌<◌, ◌≤◌, ℕ, zero, suc, Bool, true, false, List, length, nat_le, if◌then◌else◌, Option, Some, slice_get}
-use Rattle.std.specs.List.{list_all}
 use Rattle.x64_syntax.specs.declared.items.Item.{Item}
 use Rattle.x64_syntax.specs.declared.items.Item.TheVariants as item
 use Rattle.x64_meaning.specs.declared.machine.Obs.{Obs}
 use Rattle.x64_meaning.specs.State.{State}
-use Rattle.x64_meaning.specs.Table.{is_general}
 use Rattle.x64_meaning.specs.Run.{Way, run, Running, Stopped, Past}
 use Rattle.x64_meaning.specs.Run as machine
 use Rattle.x64_evaluator.specs.declared.end.End.{End}
@@ -40,14 +38,6 @@ evaluation items room (suc n) pos w = after_step room w (evaluation items room n
 -- the state of a run, what was seen and how many steps were made
 abbrev pub way : State → List Obs → ℕ → Way
 way s seen steps = record { state = s; seen = seen; steps = steps }
-
--- an item without an xmm register
-abbrev pub is_general_item : Item → Bool
-is_general_item (item.Ins i) = is_general i
-is_general_item _ = true
-
-abbrev pub are_general : List Item → Bool
-are_general items = list_all is_general_item items
 
 -- an entry stands at this position
 abbrev pub is_entry : Option Item → Bool

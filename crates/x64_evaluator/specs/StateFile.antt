@@ -2,8 +2,8 @@
 use Rattle.std.specs.Prelude.{◌≡◌, ℕ, ◌+◌, ◌^◌, pos, nat_lt, nat_le, Bool, true, false, not, ◌&&◌, ◌==◌, List, [], ◌∷◌, ◌++◌, length, map, replicate, slice_set, codes, decimal, if◌then◌else◌}
 use Rattle.std.specs.List.{list_all, list_any}
 use Rattle.hex.specs.Hex.{encode_lower}
-use Rattle.x64_syntax.specs.declared.places.Place.{Place}
-use Rattle.x64_syntax.specs.declared.places.Place.TheVariants.{Reg, Xmm, Flag}
+use Rattle.x64_syntax.specs.declared.places.MachinePlace.{MachinePlace}
+use Rattle.x64_syntax.specs.declared.places.MachinePlace.TheVariants.{Reg, Xmm, Flag}
 use Rattle.x64_syntax.specs.Places.{place_name, place_eq, reg_number, xmm_number, flag_number}
 use Rattle.x64_blocks.specs.Memory.{Range, meets}
 use Rattle.x64_meaning.specs.declared.machine.Flag.TheVariants.{Undefined}
@@ -22,11 +22,11 @@ lines_of (b ∷ bs) = if b == 10 then [] ∷ lines_of bs else in_front b (lines_
 
 -- what a line sets: the value of a place, or a block of memory behind those before it
 pub data Setting : Type 0 where
-  Value : Place → ℕ → Setting
+  Value : MachinePlace → ℕ → Setting
   Block : Range → Setting
 
 -- `rax 1`, `zf 0`
-abbrev pub value_text : Place → ℕ → List ℕ
+abbrev pub value_text : MachinePlace → ℕ → List ℕ
 value_text p n = place_name p ++ (codes " " ++ decimal n)
 
 -- bytes as pairs of hexadecimal digits, and no bytes as a dash
@@ -46,7 +46,7 @@ setting_text (Value p n) = value_text p n
 setting_text (Block b) = block_text b
 
 -- values of a place are below this
-abbrev pub limit : Place → ℕ
+abbrev pub limit : MachinePlace → ℕ
 limit (Reg r) = 2 ^ 64
 limit (Xmm x) = 2 ^ 128
 limit (Flag f) = 2

@@ -21,6 +21,6 @@ mod trace;
 pub use end::{End, RunEnd};
 pub use laws::{evaluated_is_run, one_fault};
 pub use report::report_of;
-pub use run::{are_general, is_general_item, run_items};
+pub use run::run_items;
 pub use state::{StateFault, read_state};
 pub use trace::Trace;

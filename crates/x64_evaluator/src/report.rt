@@ -11,7 +11,7 @@ use crate::trace::Trace;
 use std::alloc::{AllocError as NoMemory, Global};
 use x64_blocks::Blocks;
 use x64_meaning::{Fault, Flag, Machine, Obs};
-use x64_syntax::{FlagName, Place, Reg, Xmm, push, push_number};
+use x64_syntax::{FlagName, MachinePlace, Reg, Xmm, push, push_number};
 
 fn push_counted(out: &mut Vec<u8>, word: &str, n: u64) -> Result<(), NoMemory>
     ensures { OnOk result (out.new.items ≡ out.old.items ++ (word.now ++ decimal n)) }
@@ -45,7 +45,11 @@ fn push_regs(out: &mut Vec<u8>, m: &Machine, regs: &[Reg]) -> Result<(), NoMemor
     ensures { OnOk result (out.new.items ≡ out.old.items ++ text_of (map (reg_line m.now) regs.now)) }
 {
     for reg in regs {
-        push_value(out, Place::Reg(*reg), u128::from(m.regs[reg.number()]))?;
+        push_value(
+            out,
+            MachinePlace::Reg(*reg),
+            u128::from(m.regs[reg.number()]),
+        )?;
         push(out, "\n")?;
     }
     Ok(())
@@ -56,7 +60,7 @@ fn push_xmms(out: &mut Vec<u8>, m: &Machine, xmms: &[Xmm]) -> Result<(), NoMemor
     ensures { OnOk result (out.new.items ≡ out.old.items ++ text_of (map (xmm_line m.now) xmms.now)) }
 {
     for xmm in xmms {
-        push_value(out, Place::Xmm(*xmm), m.xmms[xmm.number()])?;
+        push_value(out, MachinePlace::Xmm(*xmm), m.xmms[xmm.number()])?;
         push(out, "\n")?;
     }
     Ok(())

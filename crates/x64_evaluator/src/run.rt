@@ -6,38 +6,19 @@ ghost use Rattle.x64_syntax.specs.declared.items.Item.TheVariants as item;
 ghost use Rattle.x64_syntax.specs.Programs.{program_ok, is_item, labels_from};
 ghost use Rattle.x64_syntax.specs.Instructions.{form_of};
 ghost use Rattle.x64_meaning.specs.declared.machine.Obs.{Obs as AnObs};
-ghost use Rattle.x64_meaning.specs.Table.{is_general};
 ghost use Rattle.x64_meaning.specs.Run.{does, run};
-ghost use Rattle.x64_evaluator.specs.Evaluated.{way, halt_at, evaluation, is_general_item, are_general, is_entry_at};
+ghost use Rattle.x64_evaluator.specs.Evaluated.{way, halt_at, evaluation, is_entry_at};
 ghost use Rattle.x64_evaluator.specs.inner.Moves.{stands, step_stand, done, steps_by};
 
 use crate::end::{End, RunEnd};
 use crate::places::place;
 use crate::trace::Trace;
-use x64_meaning::{Fault, Machine, Obs, Seen, foresee, holds, is_general, open_flag, step_ins};
+use x64_meaning::{Fault, Machine, Obs, Seen, foresee, holds, open_flag, step_ins};
 use x64_syntax::{Cond, Ins, Item};
-
-/// Whether an item names no xmm register.
-pub fn is_general_item(item: &Item) -> bool
-    ensures { result ≡ is_general_item item.now }
-{
-    match item {
-        Item::Ins(ins) => is_general(ins),
-        _ => true,
-    }
-}
-
-/// Whether no item names an xmm register.
-pub fn are_general(items: &[Item]) -> bool
-    ensures { result ≡ are_general items.now }
-{
-    items.iter().all(is_general_item)
-}
 
 // Does an instruction that is to show nothing.
 fn do_unseen(m: &mut Machine, ins: &Ins) -> Result<(), End>
-    requires form { is_ok (form_of ins.now) ≡ true }
-    requires general { is_general ins.now ≡ true }
+    requires { is_ok (form_of ins.now) ≡ true }
     ensures { (seen : List AnObs) → stands result m.new seen ≡ done (length seen) m.old seen (does ins.now m.old) }
 {
     if foresee(m, ins)?.is_some() {
@@ -50,7 +31,6 @@ fn do_unseen(m: &mut Machine, ins: &Ins) -> Result<(), End>
 // Does an instruction whose observation has room.
 fn do_seen(m: &mut Machine, ins: &Ins, t: &mut Trace) -> Result<(), End>
     requires form { is_ok (form_of ins.now) ≡ true }
-    requires general { is_general ins.now ≡ true }
     requires room { length t.old.seen < t.old.room }
     ensures done { stands result m.new t.new.seen ≡ done t.old.room m.old t.old.seen (does ins.now m.old) }
     ensures room { t.new.room ≡ t.old.room }
@@ -64,8 +44,7 @@ fn do_seen(m: &mut Machine, ins: &Ins, t: &mut Trace) -> Result<(), End>
 }
 
 fn do_ins(m: &mut Machine, ins: &Ins, t: &mut Trace) -> Result<(), End>
-    requires form { is_ok (form_of ins.now) ≡ true }
-    requires general { is_general ins.now ≡ true }
+    requires { is_ok (form_of ins.now) ≡ true }
     ensures done { stands result m.new t.new.seen ≡ done t.old.room m.old t.old.seen (does ins.now m.old) }
     ensures room { t.new.room ≡ t.old.room }
 {
@@ -119,7 +98,6 @@ fn pass(
     requires within { at < length items.now }
     requires here { slice_get items.now at ≡ Some item.now }
     requires form { is_item item.now ≡ true }
-    requires general { is_general_item item.now ≡ true }
     ensures moved { (k : ℕ) → stands result m.new t.new.seen ≡ step_stand t.old.room (way m.old t.old.seen k) (run items.now 1 at (way m.old t.old.seen k)) }
     ensures room { t.new.room ≡ t.old.room }
 {
@@ -139,7 +117,6 @@ fn pass(
 // Makes one step, and gives the position of the next.
 fn step(items: &[Item], at: usize, m: &mut Machine, t: &mut Trace) -> Result<usize, End>
     requires forms { list_all is_item items.now ≡ true }
-    requires general { are_general items.now ≡ true }
     requires order { labels_from 0 items.now ≡ true }
     ensures moved { (k : ℕ) → stands result m.new t.new.seen ≡ step_stand t.old.room (way m.old t.old.seen k) (run items.now 1 at (way m.old t.old.seen k)) }
     ensures room { t.new.room ≡ t.old.room }
@@ -167,7 +144,6 @@ fn after(made: u64, end: End) -> RunEnd
 /// seen and there is no room. It takes no memory. See docs/MACHINE.md.
 pub fn run_items(items: &[Item], entry: usize, m: &mut Machine, steps: u64, t: &mut Trace) -> RunEnd
     requires program { program_ok items.now ≡ true }
-    requires general { are_general items.now ≡ true }
     requires entry { is_entry_at items.now entry ≡ true }
     ensures ended { halt_at result.end (way m.new t.new.seen result.steps) ≡ evaluation items.now t.old.room steps entry (way m.old t.old.seen 0) }
     ensures room { t.new.room ≡ t.old.room }

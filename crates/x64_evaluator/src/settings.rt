@@ -4,26 +4,26 @@ ghost use Rattle.std.specs.Prelude.{◌≡◌, ◌≢◌, ◌<◌, ◌^◌, ◌+
 ghost use Rattle.hex.specs.Hex.{IsBytes};
 ghost use Rattle.hex.specs.declared.error.FromHexError.TheVariants as hex_fault;
 ghost use Rattle.x64_blocks.specs.Memory.{Range};
-ghost use Rattle.x64_syntax.specs.declared.places.Place.{Place as APlace};
+ghost use Rattle.x64_syntax.specs.declared.places.MachinePlace.{MachinePlace as APlace};
 ghost use Rattle.x64_syntax.specs.Places.{place_name};
 ghost use Rattle.x64_evaluator.specs.StateFile.{limit, value_text, bytes_text, range_text, are_bytes};
 ghost use Rattle.x64_evaluator.specs.inner.Setting.{IsValue, IsRange, range_seen, Blankless};
 
 use hex::{FromHexError, decode, encode};
 use std::alloc::{AllocError as NoMemory, Global};
-use x64_syntax::{Place, flag_named, push, push_number, reg_named, xmm_named};
+use x64_syntax::{MachinePlace, flag_named, push, push_number, reg_named, xmm_named};
 
 // The place of a name.
-fn place_named(name: &[u8]) -> Option<Place>
+fn place_named(name: &[u8]) -> Option<MachinePlace>
     ensures { (p : APlace) → name.now ≡ place_name p → result ≡ Some p }
 {
     if let Some(reg) = reg_named(name) {
-        return Some(Place::Reg(reg));
+        return Some(MachinePlace::Reg(reg));
     }
     if let Some(xmm) = xmm_named(name) {
-        return Some(Place::Xmm(xmm));
+        return Some(MachinePlace::Xmm(xmm));
     }
-    Some(Place::Flag(flag_named(name)?))
+    Some(MachinePlace::Flag(flag_named(name)?))
 }
 
 fn number(text: &str) -> Option<u128>
@@ -32,18 +32,18 @@ fn number(text: &str) -> Option<u128>
     text.parse::<u128>().ok()
 }
 
-fn fits(place: Place, n: u128) -> bool
+fn fits(place: MachinePlace, n: u128) -> bool
     ensures { result ≡ nat_lt n (limit place) }
 {
     match place {
-        Place::Reg(_) => u64::try_from(n).is_ok(),
-        Place::Xmm(_) => true,
-        Place::Flag(_) => n < 2,
+        MachinePlace::Reg(_) => u64::try_from(n).is_ok(),
+        MachinePlace::Xmm(_) => true,
+        MachinePlace::Flag(_) => n < 2,
     }
 }
 
 /// Appends the line of a value.
-pub(crate) fn push_value(out: &mut Vec<u8>, place: Place, n: u128) -> Result<(), NoMemory>
+pub(crate) fn push_value(out: &mut Vec<u8>, place: MachinePlace, n: u128) -> Result<(), NoMemory>
     ensures { OnOk result (out.new.items ≡ out.old.items ++ value_text place n) }
 {
     push(out, place.name())?;
@@ -149,7 +149,7 @@ pub(crate) fn range_of(
 }
 
 // The place and the value that two words can be.
-fn value_found(word: &str, rest: &str) -> Option<(Place, u128)>
+fn value_found(word: &str, rest: &str) -> Option<(MachinePlace, u128)>
     ensures { (p : APlace) (n : ℕ) → n < 2 ^ 128 → word.now ≡ place_name p → rest.now ≡ decimal n → result ≡ Some (p, n) }
 {
     let place = place_named(word.as_bytes())?;
@@ -163,7 +163,7 @@ pub(crate) fn value_of(
     text: &str,
     word: &str,
     rest: &str,
-) -> Result<Option<(Place, u128)>, NoMemory>
+) -> Result<Option<(MachinePlace, u128)>, NoMemory>
     requires text { text.now ≡ word.now ++ (codes " " ++ rest.now) }
     requires word { Blankless word.now }
     ensures { IfOk result (λ o. IsValue text.now o) }

@@ -11,7 +11,7 @@ use memchr::memchr;
 use std::alloc::{AllocError, Global};
 use x64_blocks::{AddFault, Blocks};
 use x64_meaning::{Flag, Machine};
-use x64_syntax::{Place, PlaceSet};
+use x64_syntax::{MachinePlace, PlaceSet};
 
 /// Why bytes are no state file.
 #[derive(Clone, Copy, Debug, PartialEq, Eq, Drop)]
@@ -58,14 +58,18 @@ fn first_line(text: &[u8]) -> (&[u8], &[u8])
 }
 
 // Gives a place a value.
-fn put(m: &mut Machine, place: Place, n: u128)
+fn put(m: &mut Machine, place: MachinePlace, n: u128)
     requires { n < limit place }
     ensures { m.new ≡ with_setting m.old (Value place n) }
 {
     match place {
-        Place::Reg(reg) => m.regs[reg.number()] = n as u64,
-        Place::Xmm(xmm) => m.xmms[xmm.number()] = n,
-        Place::Flag(flag) => m.flags[flag.number()] = if n == 0 { Flag::Zero } else { Flag::One },
+        MachinePlace::Reg(reg) => m.regs[reg.number()] = n as u64,
+        MachinePlace::Xmm(xmm) => m.xmms[xmm.number()] = n,
+        MachinePlace::Flag(flag) => m.flags[flag.number()] = if n == 0 {
+            Flag::Zero
+        } else {
+            Flag::One
+        },
     }
 }
 
@@ -93,7 +97,7 @@ impl StateReader {
     }
 
     // Gives a place its value, where it has none.
-    fn set(&mut self, place: Place, n: u128) -> bool
+    fn set(&mut self, place: MachinePlace, n: u128) -> bool
         requires { n < limit place }
         ensures { (ss : List Setting) → Holds ss self.old → Takes ss (λ s. s ≡ Value place n) result self.new }
     {

@@ -5,7 +5,7 @@ use Rattle.std.proofs.Math.Nat.{div-le_self}
 use Rattle.std.proofs.lemmas.Nat.{mod_below}
 use Rattle.x64_syntax.specs.declared.places.Reg.{Reg as GeneralReg}
 use Rattle.x64_syntax.specs.declared.places.FlagName.TheVariants.{Cf, Of}
-use Rattle.x64_syntax.specs.declared.places.Place.TheVariants.{Reg}
+use Rattle.x64_syntax.specs.declared.places.MachinePlace.TheVariants.{Reg}
 use Rattle.x64_syntax.specs.declared.conditions.Cond.{Cond}
 use Rattle.x64_syntax.specs.declared.instructions.OneOp.{OneOp}
 use Rattle.x64_syntax.specs.declared.instructions.OneOp.TheVariants as one

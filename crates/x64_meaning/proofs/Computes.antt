@@ -6,7 +6,7 @@ use Rattle.x64_syntax.specs.declared.places.Reg.{Reg as GeneralReg}
 use Rattle.x64_syntax.specs.declared.places.Reg.TheVariants.{Rax, Rdx}
 use Rattle.x64_syntax.specs.declared.places.FlagName.{FlagName}
 use Rattle.x64_syntax.specs.declared.places.FlagName.TheVariants.{Cf, Zf, Sf, Of}
-use Rattle.x64_syntax.specs.declared.places.Place.TheVariants.{Reg}
+use Rattle.x64_syntax.specs.declared.places.MachinePlace.TheVariants.{Reg}
 use Rattle.x64_syntax.specs.declared.instructions.AluOp.{AluOp}
 use Rattle.x64_syntax.specs.declared.instructions.AluOp.TheVariants as alu
 use Rattle.x64_syntax.specs.Places.{reg_number}

@@ -6,10 +6,12 @@ pub mod Names
 pub mod Standing
 pub mod Straight
 pub mod Numbers
+pub mod Bytes
 pub mod Parts
 pub mod Computes
 pub mod Plain
 pub mod Alone
 pub mod Sources
+pub mod XmmForms
 pub mod Stepping
 pub mod Foreseeing

@@ -11,14 +11,14 @@ use Rattle.x64_syntax.specs.declared.instructions.CarryOp.TheVariants as carry
 use Rattle.x64_syntax.specs.declared.instructions.XBinOp.TheVariants as xbin
 use Rattle.x64_syntax.specs.declared.instructions.XShiftOp.TheVariants as xshift
 use Rattle.x64_syntax.specs.declared.instructions.Ins.{Ins}
-use Rattle.x64_syntax.specs.declared.instructions.Ins.TheVariants.{Mov, Store, Lea, Cmov, Push, Pop, Alu, One, Shift, Imul, Mul, Mulx, Carry, XMov, XLoad, XStore, XBin, XShuf, XShift, XIns, XExt, XMovq}
+use Rattle.x64_syntax.specs.declared.instructions.Ins.TheVariants.{Mov, Store, Load1, Load4, Store4, Lea, Cmov, Push, Pop, Alu, One, Shift, Imul, Mul, Mulx, Carry, XMov, XLoad, XStore, XBin, XShuf, XShift, XIns, XExt, XMovq, XClmul}
 use Rattle.x64_syntax.specs.Instructions.{halves_differ}
 use Rattle.x64_syntax.specs.Places.{reg_eq}
 use Rattle.x64_syntax.proofs.PlaceLemmas.{reg_eq_is, reg_eq_same}
 use Rattle.x64_meaning.specs.Table.{equations, gets, sum, scaled_of, in_order}
 use Rattle.x64_meaning.specs.Exp.{Before, W64}
 use Rattle.term_core.specs.Value.{word_of}
-use Rattle.x64_syntax.specs.declared.places.Place.TheVariants.{Reg}
+use Rattle.x64_syntax.specs.declared.places.MachinePlace.TheVariants.{Reg}
 
 apart : (x y : GeneralReg) → not (reg_eq x y) ≡ true → reg_eq y x ≡ false
 apart x y h = by_test (reg_eq y x) refl where
@@ -31,6 +31,9 @@ equations-in_order (Mov d (R r)) h = refl
 equations-in_order (Mov d (Imm z)) h = refl
 equations-in_order (Mov d (M m)) h = refl
 equations-in_order (Store m s) h = refl
+equations-in_order (Load1 d m) h = refl
+equations-in_order (Load4 d m) h = refl
+equations-in_order (Store4 m s) h = refl
 equations-in_order (Lea d m) h = by_index m.index where
   by_index : (o : Option (GeneralReg × ℕ)) → in_order [] (gets (Reg d) (sum (scaled_of (Before (Reg m.base)) o) (W64 (word_of m.disp))) ∷ []) ≡ true
   by_index None = refl
@@ -99,6 +102,8 @@ equations-in_order (XBin xbin.Pshufb d s) h = refl
 equations-in_order (XBin xbin.Paddq d s) h = refl
 equations-in_order (XBin xbin.Punpcklqdq d s) h = refl
 equations-in_order (XBin xbin.Punpckhqdq d s) h = refl
+equations-in_order (XBin xbin.Aesenc d s) h = refl
+equations-in_order (XBin xbin.Aesenclast d s) h = refl
 equations-in_order (XShuf d s n) h = refl
 equations-in_order (XShift xshift.Pslld d n) h = refl
 equations-in_order (XShift xshift.Psrld d n) h = refl
@@ -109,3 +114,4 @@ equations-in_order (XIns d s (suc n)) h = refl
 equations-in_order (XExt d s zero) h = refl
 equations-in_order (XExt d s (suc n)) h = refl
 equations-in_order (XMovq d s) h = refl
+equations-in_order (XClmul d s n) h = refl

@@ -3,8 +3,8 @@ use Rattle.std.proofs.Common.{◌≡◌, ℕ, ◌+◌, ◌-◌, ◌*◌, ◌/◌
 use Rattle.std.specs.Prelude.{nat_le, nat_lt, ◌==◌, bit_and, bit_or, bit_xor}
 use Rattle.std.specs.Int.Bits.{and_lt}
 use Rattle.std.proofs.lemmas.Nat.{xor_lt, or_lt, mod_below, div_below, mul-lt}
-use Rattle.x64_syntax.specs.declared.places.Place.{Place}
-use Rattle.x64_syntax.specs.declared.places.Place.TheVariants.{Flag}
+use Rattle.x64_syntax.specs.declared.places.MachinePlace.{MachinePlace}
+use Rattle.x64_syntax.specs.declared.places.MachinePlace.TheVariants.{Flag}
 use Rattle.x64_syntax.specs.declared.places.FlagName.{FlagName}
 use Rattle.word_ops.specs.Words.{bit}
 use Rattle.x64_syntax.specs.declared.type_words.Sort.TheVariants as sort
@@ -18,7 +18,7 @@ use Rattle.x64_meaning.specs.Exp.{Exp, Int, W64, Un, Bin, exp_sort, exp_value}
 use Rattle.x64_meaning.specs.Table.{int_of, sum, difference, xor_of, one_if, one_unless, is_set, flag_in}
 use Rattle.x64_meaning.specs.inner.Steps.{is_one, flag_if}
 
-module _ (before after : Place → Val) (m : ℕ → Val) where
+module _ (before after : MachinePlace → Val) (m : ℕ → Val) where
   abbrev val : Exp → Val
   val e = exp_value before after m e
 

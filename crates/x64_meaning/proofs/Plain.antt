@@ -5,7 +5,7 @@ use Rattle.std.proofs.lemmas.Nat.{mod_below, mul-mod_second}
 use Rattle.x64_syntax.specs.declared.places.Reg.{Reg as GeneralReg}
 use Rattle.x64_syntax.specs.declared.places.FlagName.{FlagName}
 use Rattle.x64_syntax.specs.declared.places.FlagName.TheVariants.{Cf, Zf}
-use Rattle.x64_syntax.specs.declared.places.Place.TheVariants.{Reg}
+use Rattle.x64_syntax.specs.declared.places.MachinePlace.TheVariants.{Reg}
 use Rattle.x64_syntax.specs.declared.conditions.Cond.{Cond}
 use Rattle.x64_syntax.specs.declared.conditions.Cond.TheVariants as condition
 use Rattle.x64_syntax.specs.declared.operands.Mem.{Mem}

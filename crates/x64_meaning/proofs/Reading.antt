@@ -3,8 +3,8 @@ use Rattle.std.proofs.Common.{◌≡◌, ℕ, ◌<◌, pos, false, List, length,
 use Rattle.std.specs.Prelude.{slice_index}
 use Rattle.std.proofs.lemmas.Bool.{eqb-false, cases_eq}
 use Rattle.std.proofs.lemmas.List.{get_or-set_same, get_or-set_other, length-set}
-use Rattle.x64_syntax.specs.declared.places.Place.{Place}
-use Rattle.x64_syntax.specs.declared.places.Place.TheVariants.{Reg, Xmm, Flag}
+use Rattle.x64_syntax.specs.declared.places.MachinePlace.{MachinePlace}
+use Rattle.x64_syntax.specs.declared.places.MachinePlace.TheVariants.{Reg, Xmm, Flag}
 use Rattle.x64_syntax.specs.Places.{reg_number, xmm_number, flag_number, place_eq}
 use Rattle.x64_syntax.proofs.PlaceLemmas.{reg_number_lt, xmm_number_lt, flag_number_lt}
 use Rattle.term_core.specs.Value.{T, T128, Val, Whole, Word, Wide, whole, word, wide, cast}
@@ -13,12 +13,12 @@ use Rattle.x64_meaning.specs.declared.machine.Flag.TheVariants.{Undefined}
 use Rattle.x64_meaning.specs.State.{State, IsState, flag_number_of, flag_from, place_sort, read, write}
 
 -- a place can hold the value
-abbrev pub Storable : Place → Val → Type 0
+abbrev pub Storable : MachinePlace → Val → Type 0
 Storable (Reg r) v = v ≡ Word (word v)
 Storable (Xmm x) v = v ≡ Wide (wide v)
 Storable (Flag f) v = v ≡ Whole (pos (flag_number_of (flag_from (whole v))))
 
-pub read_written : (s : State) (p : Place) (v : Val) → IsState s → Storable p v → read (write s p v) p ≡ v
+pub read_written : (s : State) (p : MachinePlace) (v : Val) → IsState s → Storable p v → read (write s p v) p ≡ v
 read_written s (Reg r) v ok h =
     let lt : reg_number r < length s.regs = omega (arith, ok.regs, reg_number_lt r) in
     ap Word (get_or-set_same s.regs (reg_number r) (word v) 0 lt) ∙ sym h
@@ -29,7 +29,7 @@ read_written s (Flag f) v ok h =
     let lt : flag_number f < length s.flags = omega (arith, ok.flags, flag_number_lt f) in
     ap (λ x. Whole (pos (flag_number_of x))) (get_or-set_same s.flags (flag_number f) (flag_from (whole v)) Undefined lt) ∙ sym h
 
-pub read_other : (s : State) (p q : Place) (v : Val) → place_eq p q ≡ false → read (write s q v) p ≡ read s p
+pub read_other : (s : State) (p q : MachinePlace) (v : Val) → place_eq p q ≡ false → read (write s q v) p ≡ read s p
 read_other s (Reg a) (Reg b) v h =
     ap Word (get_or-set_other s.regs (reg_number b) (reg_number a) (word v) 0 (eqb-false _ _ h))
 read_other s (Xmm a) (Xmm b) v h =
@@ -50,7 +50,7 @@ set-lt xs i x bound within fits all k = elim (cases_eq k i) [
   | inr ne ↦ subst (λ n. n < bound) (sym (get_or-set_other xs i k x 0 ne)) (all k)
 ]
 
-pub write-IsState : (s : State) (p : Place) (v : Val) → IsState s → IsState (write s p v)
+pub write-IsState : (s : State) (p : MachinePlace) (v : Val) → IsState s → IsState (write s p v)
 write-IsState s (Reg r) v ok = record {
   regs = length-set s.regs _ _ ∙ ok.regs;
   regs_fit = set-lt s.regs _ _ T (omega (arith, ok.regs, reg_number_lt r)) (word-lt v) ok.regs_fit;
@@ -77,7 +77,7 @@ write-IsState s (Flag f) v ok = record {
 }
 
 -- what is read has the sort of its place
-pub read-sorted : (s : State) (p : Place) → IsState s → cast (place_sort p) (read s p) ≡ read s p
+pub read-sorted : (s : State) (p : MachinePlace) → IsState s → cast (place_sort p) (read s p) ≡ read s p
 read-sorted s (Reg r) ok = ap Word (mod-eq_of_lt (ok.regs_fit (reg_number r)))
 read-sorted s (Xmm x) ok = ap Wide (mod-eq_of_lt (ok.xmms_fit (xmm_number x)))
 read-sorted s (Flag f) ok = refl

@@ -1,8 +1,8 @@
 -- A source operand stands for the word that it gives: the equations over the one are those over the other.
 use Rattle.std.proofs.Common.{◌≡◌, ℕ, zero, suc, ◌%◌, ◌<◌, List, [], ◌∷◌, map, Option, Some, None, refl, sym, ap, ◌∙◌, subst, mod-eq_of_lt}
 use Rattle.std.specs.Prelude.{Result, Ok, Err}
-use Rattle.x64_syntax.specs.declared.places.Place.{Place}
-use Rattle.x64_syntax.specs.declared.places.Place.TheVariants.{Reg}
+use Rattle.x64_syntax.specs.declared.places.MachinePlace.{MachinePlace}
+use Rattle.x64_syntax.specs.declared.places.MachinePlace.TheVariants.{Reg}
 use Rattle.x64_syntax.specs.declared.operands.Opr.{Opr}
 use Rattle.x64_syntax.specs.declared.operands.Opr.TheVariants.{R, Imm, M}
 use Rattle.x64_syntax.specs.declared.instructions.Ins.{Ins}
@@ -13,7 +13,7 @@ use Rattle.term_core.specs.Value.{T, Val, Word, word_of, counted_value}
 use Rattle.x64_meaning.specs.declared.machine.Obs.{Obs}
 use Rattle.x64_meaning.specs.declared.machine.Fault.{Fault}
 use Rattle.x64_meaning.specs.State.{State, read, write, load}
-use Rattle.x64_meaning.specs.Exp.{Exp, Before, After, Loaded, Int, W64, Un, Bin, Ite, Shift, exp_sort, exp_value, no_words}
+use Rattle.x64_meaning.specs.Exp.{Exp, Before, After, Loaded, Int, W64, Un, Bin, Ite, Clmul, Shift, exp_sort, exp_value, no_words}
 use Rattle.x64_meaning.specs.Table.{Equation, source, equations, load_size, apply}
 use Rattle.x64_meaning.specs.Run.{access, operand_access, after_stack, word_in, with_access, with_loaded, address}
 use Rattle.x64_meaning.specs.inner.Steps.{Acts, load_result, source_word}
@@ -30,6 +30,7 @@ filled x (W64 n) = W64 n
 filled x (Un op e) = Un op (filled x e)
 filled x (Bin op e f) = Bin op (filled x e) (filled x f)
 filled x (Ite c e f) = Ite (filled x c) (filled x e) (filled x f)
+filled x (Clmul e f n) = Clmul (filled x e) (filled x f) n
 filled x (Shift op n e) = Shift op n (filled x e)
 
 abbrev pub fill : Exp → Equation → Equation
@@ -51,9 +52,10 @@ module _ (x : Exp) (is_word : exp_sort x ≡ sort.W64) where
   filled-sort (Un op e) = ap (un_sort op) (filled-sort e)
   filled-sort (Bin op e f) = ap (bin_sort op) (filled-sort e)
   filled-sort (Ite c e f) = filled-sort e
+  filled-sort (Clmul e f n) = refl
   filled-sort (Shift op n e) = refl
 
-  module _ (b a : Place → Val) (m : ℕ → Val) (v : Val) (worth : exp_value b a m x ≡ v) where
+  module _ (b a : MachinePlace → Val) (m : ℕ → Val) (v : Val) (worth : exp_value b a m x ≡ v) where
     filled-value : (e : Exp) → exp_value b a m (filled x e) ≡ exp_value b a (first_is v m) e
     filled-value (Before p) = refl
     filled-value (After p) = refl
@@ -64,6 +66,7 @@ module _ (x : Exp) (is_word : exp_sort x ≡ sort.W64) where
     filled-value (Un op e) = rw (filled-sort e, filled-value e) refl
     filled-value (Bin op e f) = rw (filled-sort e, filled-value e, filled-value f) refl
     filled-value (Ite c e f) = rw (filled-sort e, filled-value c, filled-value e, filled-value f) refl
+    filled-value (Clmul e f n) = rw (filled-value e, filled-value f) refl
     filled-value (Shift op n e) = ap (counted_value op n) (filled-value e)
 
   -- the equations leave the same
@@ -111,7 +114,7 @@ with_source s i (M x) es F has leaves b seen lt from =
     subst (λ y. Acts (with_access s i y) s (F b) (Ok seen)) (sym (has.accesses s))
     (subst (λ n. Acts (with_loaded s i a n (load s a n)) s (F b) (Ok seen)) (sym has.size) (by_load (load s a 8) from))
   where
-    by_load : (l : Option ℕ) → load_result (address s x) l ≡ Ok (b, seen) → Acts (with_loaded s i (address s x) 8 l) s (F b) (Ok seen)
+    by_load : (l : Option ℕ) → load_result (address s x) 8 l ≡ Ok (b, seen) → Acts (with_loaded s i (address s x) 8 l) s (F b) (Ok seen)
     by_load None h = absurd cc
     by_load (Some n) h =
         let p = ok_is h in
@@ -120,6 +123,11 @@ with_source s i (M x) es F has leaves b seen lt from =
         let state = has.stays (apply s (word_in n) (equations i) s) ∙ ap (λ e. apply s (word_in n) e s) has.equations_are ∙ filled-apply (source (M x)) refl s (word_in n) v (λ now. refl) es s ∙ leaves (first_is v (word_in n)) b lt same in
         (ap Ok (sym p.1), sym state)
 
+-- what can't be loaded is a fault
+pub not_loaded : (s : State) (i : Ins) (a size : ℕ) (f : Fault) (l : Option ℕ) → load_result a size l ≡ Err f → Acts (with_loaded s i a size l) s s (Err f)
+not_loaded s i a size f None h = (sym (ap Err (err_is h)), refl)
+not_loaded s i a size f (Some n) h = absurd cc
+
 -- and faults where its source can't be read
 pub faults_alone : (s : State) (i : Ins) (o : Opr) → ((s : State) → access s i ≡ operand_access s i (source_memory o) None) → load_size i ≡ 8 → (f : Fault) → source_word s o ≡ Err f → Acts (with_access s i (access s i)) s s (Err f)
 faults_alone s i (R r) accesses size f from = absurd cc
@@ -127,8 +135,4 @@ faults_alone s i (Imm z) accesses size f from = absurd cc
 faults_alone s i (M x) accesses size f from =
     let a = address s x in
     subst (λ y. Acts (with_access s i y) s s (Err f)) (sym (accesses s))
-    (subst (λ n. Acts (with_loaded s i a n (load s a n)) s s (Err f)) (sym size) (by_load (load s a 8) from))
-  where
-    by_load : (l : Option ℕ) → load_result (address s x) l ≡ Err f → Acts (with_loaded s i (address s x) 8 l) s s (Err f)
-    by_load None h = (sym (ap Err (err_is h)), refl)
-    by_load (Some n) h = absurd cc
+    (subst (λ n. Acts (with_loaded s i a n (load s a n)) s s (Err f)) (sym size) (not_loaded s i a 8 f (load s a 8) from))

@@ -5,8 +5,8 @@ use Rattle.std.specs.List.{AllByRecursion, list_all}
 use Rattle.std.proofs.lemmas.Bool.{not-true, and_parts, false≢true}
 use Rattle.x64_syntax.specs.declared.places.Reg.TheVariants.{Rsp}
 use Rattle.x64_syntax.specs.declared.places.FlagName.TheVariants.{Cf, Zf, Sf, Of}
-use Rattle.x64_syntax.specs.declared.places.Place.{Place}
-use Rattle.x64_syntax.specs.declared.places.Place.TheVariants.{Reg, Flag}
+use Rattle.x64_syntax.specs.declared.places.MachinePlace.{MachinePlace}
+use Rattle.x64_syntax.specs.declared.places.MachinePlace.TheVariants.{Reg, Flag}
 use Rattle.x64_syntax.specs.Places.{place_eq}
 use Rattle.x64_syntax.proofs.PlaceLemmas.{place_eq_is}
 use Rattle.x64_syntax.specs.declared.operands.Mem.{Mem}
@@ -44,12 +44,12 @@ next-IsState : (s : State) (i : Ins) → IsState s → IsState (next s i)
 next-IsState s i ok = apply-IsState s no_words (equations i) s ok
 
 -- what a place holds at the version that comes so many writes later
-value_at : List Ins → State → Place → ℕ → Val
+value_at : List Ins → State → MachinePlace → ℕ → Val
 value_at [] s p k = read s p
 value_at (i ∷ is) s p zero = read s p
 value_at (i ∷ is) s p (suc k) = if among (writes i) p then value_at is (next s i) p k else value_at is (next s i) p (suc k)
 
-value_at-zero : (is : List Ins) (s : State) (p : Place) → value_at is s p 0 ≡ read s p
+value_at-zero : (is : List Ins) (s : State) (p : MachinePlace) → value_at is s p 0 ≡ read s p
 unfolding value_at
 value_at-zero [] s p = refl
 value_at-zero (i ∷ is) s p = refl
@@ -58,7 +58,7 @@ chosen_sorted : (s : Sort) (b : Bool) (v w : Val) → cast s v ≡ v → cast s 
 chosen_sorted s true v w h k = h
 chosen_sorted s false v w h k = k
 
-value_at-sorted : (is : List Ins) (s : State) (p : Place) (k : ℕ) → IsState s → cast (place_sort p) (value_at is s p k) ≡ value_at is s p k
+value_at-sorted : (is : List Ins) (s : State) (p : MachinePlace) (k : ℕ) → IsState s → cast (place_sort p) (value_at is s p k) ≡ value_at is s p k
 unfolding value_at
 value_at-sorted [] s p k ok = read-sorted s p ok
 value_at-sorted (i ∷ is) s p zero ok = read-sorted s p ok
@@ -68,13 +68,13 @@ value_at-sorted (i ∷ is) s p (suc k) ok =
 
 -- the assignment gives the versions the values of a run of the code
 record Follows (a : Assignment) (v : Versions) (is : List Ins) (s : State) : Type 0 where
-  names : (p : Place) (j : ℕ) → j ≤ length is → value no_functions a (version p (v p + j)) ≡ value_at is s p j
+  names : (p : MachinePlace) (j : ℕ) → j ≤ length is → value no_functions a (version p (v p + j)) ≡ value_at is s p j
 
 follows-next : (a : Assignment) (v : Versions) (i : Ins) (is : List Ins) (s : State) → Follows a v (i ∷ is) s → Follows a (next_versions v (writes i)) is (next s i)
 unfolding value_at
 follows-next a v i is s f = record { names = λ p j le. either p j le (among (writes i) p) refl }
   where
-    either : (p : Place) (j : ℕ) → j ≤ length is → (b : Bool) → among (writes i) p ≡ b → value no_functions a (version p (cond b (v p + 1) (v p) + j)) ≡ value_at is (next s i) p j
+    either : (p : MachinePlace) (j : ℕ) → j ≤ length is → (b : Bool) → among (writes i) p ≡ b → value no_functions a (version p (cond b (v p + 1) (v p) + j)) ≡ value_at is (next s i) p j
     either p j le true w =
         let e : v p + 1 + j ≡ v p + suc j = omega arith in
         ap (λ n. value no_functions a (version p n)) e ∙ f.names p (suc j) (omega arith) ∙ ap (λ b. cond b (value_at is (next s i) p j) (value_at is (next s i) p (suc j))) w
@@ -84,12 +84,12 @@ follows-next a v i is s f = record { names = λ p j le. either p j le (among (wr
         f.names p (suc j) (omega arith) ∙ ap (λ b. cond b (value_at is (next s i) p j) (value_at is (next s i) p (suc j))) w
 
 -- the present versions and the next ones
-follows-now : (a : Assignment) (v : Versions) (is : List Ins) (s : State) → Follows a v is s → (p : Place) → value no_functions a (version p (v p)) ≡ read s p
+follows-now : (a : Assignment) (v : Versions) (is : List Ins) (s : State) → Follows a v is s → (p : MachinePlace) → value no_functions a (version p (v p)) ≡ read s p
 follows-now a v is s f p =
     let e : v p ≡ v p + 0 = omega arith in
     ap (λ n. value no_functions a (version p n)) e ∙ f.names p 0 (omega arith) ∙ value_at-zero is s p
 
-follows-written : (a : Assignment) (v : Versions) (i : Ins) (is : List Ins) (s : State) → Follows a v (i ∷ is) s → (p : Place) → among (writes i) p ≡ true → value no_functions a (version p (v p + 1)) ≡ read (next s i) p
+follows-written : (a : Assignment) (v : Versions) (i : Ins) (is : List Ins) (s : State) → Follows a v (i ∷ is) s → (p : MachinePlace) → among (writes i) p ≡ true → value no_functions a (version p (v p + 1)) ≡ read (next s i) p
 unfolding value_at
 follows-written a v i is s f p w =
     f.names p 1 (omega arith) ∙ ap (λ b. cond b (value_at is (next s i) p 0) (value_at is (next s i) p 1)) w ∙ value_at-zero is (next s i) p
@@ -98,7 +98,7 @@ equal_holds : (v w : Val) → v ≡ w → Truth (val_eq v w) ≡ Truth true
 equal_holds v w h = ap Truth (ap (val_eq v) (sym h) ∙ val_eq_same v)
 
 -- the equations of one instruction hold under an assignment that follows a run
-equations_hold : (a : Assignment) (v : Versions) (s t : State) → ((p : Place) → value no_functions a (version p (v p)) ≡ read s p) → (done : List Place) (es : List Equation) → in_order done es ≡ true → ((p : Place) → among done p ≡ true → value no_functions a (version p (v p + 1)) ≡ read t p) → ((p : Place) → among (places es) p ≡ true → value no_functions a (version p (v p + 1)) ≡ read t p) → AllByRecursion (Equal (read s) (read t) no_words) es → AllByRecursion (Holds no_functions a) (map (hypothesis v) es)
+equations_hold : (a : Assignment) (v : Versions) (s t : State) → ((p : MachinePlace) → value no_functions a (version p (v p)) ≡ read s p) → (done : List MachinePlace) (es : List Equation) → in_order done es ≡ true → ((p : MachinePlace) → among done p ≡ true → value no_functions a (version p (v p + 1)) ≡ read t p) → ((p : MachinePlace) → among (places es) p ≡ true → value no_functions a (version p (v p + 1)) ≡ read t p) → AllByRecursion (Equal (read s) (read t) no_words) es → AllByRecursion (Holds no_functions a) (map (hypothesis v) es)
 equations_hold a v s t now done [] h in_done in_es eq = tt
 equations_hold a v s t now done (e ∷ es) h in_done in_es eq =
     let o = order_of done e es h in
@@ -109,7 +109,7 @@ equations_hold a v s t now done (e ∷ es) h in_done in_es eq =
       equations_hold a v s t now (e.place ∷ done) es o.rest (either e.place done in_done (in_es e.place (among_head (places es) e.place))) (λ p d. in_es p (among_tail (places es) p e.place d)) eq.1,
     )
   where
-    either : (q : Place) (ps : List Place) → ((p : Place) → among ps p ≡ true → value no_functions a (version p (v p + 1)) ≡ read t p) → value no_functions a (version q (v q + 1)) ≡ read t q → (p : Place) → among (q ∷ ps) p ≡ true → value no_functions a (version p (v p + 1)) ≡ read t p
+    either : (q : MachinePlace) (ps : List MachinePlace) → ((p : MachinePlace) → among ps p ≡ true → value no_functions a (version p (v p + 1)) ≡ read t p) → value no_functions a (version q (v q + 1)) ≡ read t q → (p : MachinePlace) → among (q ∷ ps) p ≡ true → value no_functions a (version p (v p + 1)) ≡ read t p
     either q ps rest here p d = by_test (place_eq p q) refl d
       where
         by_test : (b : Bool) → place_eq p q ≡ b → (b || among ps p) ≡ true → value no_functions a (version p (v p + 1)) ≡ read t p
@@ -141,7 +141,7 @@ hypotheses_hold a v (i ∷ is) s ok plain f =
     (hypotheses_hold a (next_versions v (writes i)) is (next s i) (next-IsState s i ok) p.1 (follows-next a v i is s f))
 
 -- it names the end
-follows_end : (a : Assignment) (v : Versions) (is : List Ins) (s : State) → Follows a v is s → (p : Place) → value no_functions a (version p (end_versions v is p)) ≡ read (end_of s is) p
+follows_end : (a : Assignment) (v : Versions) (is : List Ins) (s : State) → Follows a v is s → (p : MachinePlace) → value no_functions a (version p (end_versions v is p)) ≡ read (end_of s is) p
 follows_end a v [] s f p = follows-now a v [] s f p
 follows_end a v (i ∷ is) s f p = follows_end a (next_versions v (writes i)) is (next s i) (follows-next a v i is s f) p
 
@@ -153,7 +153,7 @@ assignment-follows : (is : List Ins) (s : State) → IsState s → length is < 2
 unfolding assignment
 assignment-follows is s ok small = record { names = λ p j le. name p j le }
   where
-    name : (p : Place) (j : ℕ) → j ≤ length is → value no_functions (assignment is s) (version p (first_versions p + j)) ≡ value_at is s p j
+    name : (p : MachinePlace) (j : ℕ) → j ≤ length is → value no_functions (assignment is s) (version p (first_versions p + j)) ≡ value_at is s p j
     name p j le =
         let e : first_versions p + j ≡ j = omega arith in
         ap (λ n. value no_functions (assignment is s) (version p n)) e
@@ -166,8 +166,8 @@ goal_true : (is : List Ins) (e : Exp) (s : State) → IsState s → list_all is_
 goal_true is e s ok plain small h =
     let a = assignment is s in
     let f = assignment-follows is s ok small in
-    let first : (p : Place) → value no_functions a (version p 0) ≡ read s p = follows-now a first_versions is s f in
-    let last : (p : Place) → value no_functions a (version p (end_versions first_versions is p)) ≡ read (end_of s is) p = follows_end a first_versions is s f in
+    let first : (p : MachinePlace) → value no_functions a (version p 0) ≡ read s p = follows-now a first_versions is s f in
+    let last : (p : MachinePlace) → value no_functions a (version p (end_versions first_versions is p)) ≡ read (end_of s is) p = follows_end a first_versions is s f in
     let term = exp_term-value (λ p. version p 0) (λ p. version p (end_versions first_versions is p)) no_terms (λ p. refl) (λ p. refl) (λ k. refl) no_functions a e in
     let holds = h a (hypotheses_hold a first_versions is s ok plain f) in
     sym (exp_value-all _ _ _ _ no_words first last e) ∙ sym term ∙ holds
@@ -219,7 +219,7 @@ run_straight items (i ∷ is) at w plain has =
     (suc rest.0, rest.1, step ∙ rest.2, rest.3)
 
 -- a place that isn't written is as it was
-unwritten_same : (is : List Ins) (s : State) (p : Place) → keeps_place is p ≡ true → read (end_of s is) p ≡ read s p
+unwritten_same : (is : List Ins) (s : State) (p : MachinePlace) → keeps_place is p ≡ true → read (end_of s is) p ≡ read s p
 unwritten_same [] s p h = refl
 unwritten_same (i ∷ is) s p h =
     let b = and_parts (not (among (writes i) p)) (keeps_place is p) h in
@@ -259,7 +259,7 @@ straight_meets name is c fits s ok pre =
     let same : r.1.state ≡ end_of s is = r.3 in
     let entry : run items (suc r.0) 0 (start s) ≡ run items r.0 1 w0 = refl in
     let holds = promises_hold c.ensures_ is s ok fits.plain fits.short fits.proved in
-    let others : (p : Place) → c.modifies p ≡ false → read (end_of s is) p ≡ read s p = λ p m. unwritten_same is s p (fits.declared p m) in
+    let others : (p : MachinePlace) → c.modifies p ≡ false → read (end_of s is) p ≡ read s p = λ p m. unwritten_same is s p (fits.declared p m) in
     let rsp : reg (end_of s is) Rsp ≡ reg s Rsp = word_same _ _ (others (Reg Rsp) fits.rsp) in
     let post : Post c s (end_of s is) = record { holds = holds; rsp = rsp } in
     let frame : Frame c s (end_of s is) = record { blocks = blocks_same is s; others = others } in

@@ -3,8 +3,8 @@ use Rattle.std.specs.Prelude.{◌≡◌, ℕ, pos, ◌+◌, ◌<◌, ◌^◌, Bo
 use Rattle.std.specs.List.{list_all, AllByRecursion}
 use Rattle.x64_syntax.specs.declared.places.Reg.TheVariants.{Rsp}
 use Rattle.x64_syntax.specs.declared.places.FlagName.TheVariants.{Cf, Zf, Sf, Of}
-use Rattle.x64_syntax.specs.declared.places.Place.{Place}
-use Rattle.x64_syntax.specs.declared.places.Place.TheVariants.{Reg, Flag}
+use Rattle.x64_syntax.specs.declared.places.MachinePlace.{MachinePlace}
+use Rattle.x64_syntax.specs.declared.places.MachinePlace.TheVariants.{Reg, Flag}
 use Rattle.x64_syntax.specs.declared.instructions.Ins.{Ins}
 use Rattle.x64_syntax.specs.declared.instructions.Ins.TheVariants.{Push, Pop}
 use Rattle.x64_syntax.specs.Instructions.{accesses, halves_differ}
@@ -22,17 +22,17 @@ use Rattle.x64_meaning.specs.Table.{Equation, equations, writes, reads}
 
 -- which version of each place is present
 abbrev pub Versions : Type 0
-Versions = Place → ℕ
+Versions = MachinePlace → ℕ
 
 -- the name of a place's value at a version, as `rax.0`
-abbrev pub version_name : Place → ℕ → List ℕ
+abbrev pub version_name : MachinePlace → ℕ → List ℕ
 version_name p k = place_name p ++ (46 ∷ decimal k)
 
-abbrev pub version : Place → ℕ → Tm
+abbrev pub version : MachinePlace → ℕ → Tm
 version p k = Name (version_name p k) (place_sort p)
 
 -- each written place takes its next version
-abbrev pub next_versions : Versions → List Place → Versions
+abbrev pub next_versions : Versions → List MachinePlace → Versions
 next_versions v places p = if among places p then v p + 1 else v p
 
 -- where nothing is loaded
@@ -80,7 +80,7 @@ is_plain i =
     && not (reads i (Flag Cf)) && not (reads i (Flag Zf)) && not (reads i (Flag Sf)) && not (reads i (Flag Of))
 
 -- no instruction of straight code writes the place
-abbrev pub keeps_place : List Ins → Place → Bool
+abbrev pub keeps_place : List Ins → MachinePlace → Bool
 keeps_place is p = list_all (λ i. not (among (writes i) p)) is
 
 -- straight code as flat items: its entry, its instructions and `ret`
@@ -92,7 +92,7 @@ straight_items name is = item.Entry name ∷ (map item.Ins is ++ item.Ret ∷ []
 pub record StraightFits (is : List Ins) (c : Contract) : Type 0 where
   pub plain : list_all is_plain is ≡ true
   pub short : length is < 2 ^ 64
-  pub declared : (p : Place) → c.modifies p ≡ false → keeps_place is p ≡ true
+  pub declared : (p : MachinePlace) → c.modifies p ≡ false → keeps_place is p ≡ true
   pub rsp : c.modifies (Reg Rsp) ≡ false
   pub proved : AllByRecursion (λ e. True no_functions (straight_hyps is) (straight_goal is e)) c.ensures_
 
@@ -101,8 +101,8 @@ pub record StraightFits (is : List Ins) (c : Contract) : Type 0 where
 pub record Names (is : List Ins) (s t : State) : Type 0 where
   pub assignment : Assignment
   pub holds : AllByRecursion (Holds no_functions assignment) (straight_hyps is)
-  pub first : (p : Place) → value no_functions assignment (version p 0) ≡ read s p
-  pub last : (p : Place) → value no_functions assignment (version p (end_versions first_versions is p)) ≡ read t p
+  pub first : (p : MachinePlace) → value no_functions assignment (version p 0) ≡ read s p
+  pub last : (p : MachinePlace) → value no_functions assignment (version p (end_versions first_versions is p)) ≡ read t p
 
 -- From any state, straight code of plain instructions ends, and some assignment names its start and its end.
 abbrev pub IsNamed : List Ins → List Item → ℕ → Type 0

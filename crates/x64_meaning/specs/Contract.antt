@@ -3,8 +3,8 @@ use Rattle.std.specs.Prelude.{◌≡◌, ◌≢◌, ℕ, Bool, true, false, List
 use Rattle.std.specs.List.{AllByRecursion}
 use Rattle.x64_syntax.specs.declared.places.Reg.TheVariants.{Rsp}
 use Rattle.x64_syntax.specs.declared.places.FlagName.{FlagName}
-use Rattle.x64_syntax.specs.declared.places.Place.{Place}
-use Rattle.x64_syntax.specs.declared.places.Place.TheVariants.{Flag}
+use Rattle.x64_syntax.specs.declared.places.MachinePlace.{MachinePlace}
+use Rattle.x64_syntax.specs.declared.places.MachinePlace.TheVariants.{Flag}
 use Rattle.x64_syntax.specs.declared.items.Item.{Item}
 use Rattle.term_core.specs.Value.{Val, Truth}
 use Rattle.x64_meaning.specs.declared.machine.Flag.TheVariants.{Undefined}
@@ -15,13 +15,13 @@ use Rattle.x64_meaning.specs.Run.{Way, start, Ended, run}
 -- Which places are read and which may change, and what is asked before and promised after. In a promise the value
 -- before is that at the start.
 pub record Contract : Type 0 where
-  pub reads : Place → Bool
-  pub modifies : Place → Bool
+  pub reads : MachinePlace → Bool
+  pub modifies : MachinePlace → Bool
   pub requires_ : List Exp
   pub ensures_ : List Exp
 
 -- the expression is true, by what the places hold before and after
-abbrev pub Worth : (Place → Val) → (Place → Val) → Exp → Type 0
+abbrev pub Worth : (MachinePlace → Val) → (MachinePlace → Val) → Exp → Type 0
 Worth before after e = exp_value before after no_words e ≡ Truth true
 
 -- what a start has to meet: the requirements hold, and flags that are read are defined
@@ -37,7 +37,7 @@ pub record Post (c : Contract) (s t : State) : Type 0 where
 -- only declared places change
 pub record Frame (c : Contract) (s t : State) : Type 0 where
   pub blocks : t.blocks ≡ s.blocks
-  pub others : (p : Place) → c.modifies p ≡ false → read t p ≡ read s p
+  pub others : (p : MachinePlace) → c.modifies p ≡ false → read t p ≡ read s p
 
 -- The items, started at a position in any state that meets what is asked, end without a fault, meet what is promised
 -- and change only declared places.
@@ -48,7 +48,7 @@ Meets c items pos =
 
 -- Two starts agree on what is public: on each place that is read.
 pub record Agree (c : Contract) (s t : State) : Type 0 where
-  pub places : (p : Place) → c.reads p ≡ true → read s p ≡ read t p
+  pub places : (p : MachinePlace) → c.reads p ≡ true → read s p ≡ read t p
 
 -- Of two starts that agree, where a run from the one ends, so does one from the other, after as many steps and with the
 -- same observations.

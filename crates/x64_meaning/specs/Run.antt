@@ -1,11 +1,11 @@
 -- What one instruction does, and runs of flat code.
-use Rattle.std.specs.Prelude.{◌≡◌, ℕ, zero, suc, ◌+◌, ◌-◌, ◌/◌, ◌%◌, length, Bool, true, false, ◌&&◌, ◌==◌, List, [], ◌∷◌, ◌++◌, Option, Some, None, slice_get, position}
+use Rattle.std.specs.Prelude.{◌≡◌, ℕ, zero, suc, ◌+◌, ◌-◌, ◌/◌, ◌%◌, take, Bool, true, false, ◌&&◌, ◌==◌, List, [], ◌∷◌, ◌++◌, Option, Some, None, slice_get, position}
 use Rattle.std.specs.List.{find}
 use Rattle.std.specs.Int.{to_le_bytes, w64}
 use Rattle.x64_syntax.specs.declared.places.Reg.TheVariants.{Rsp}
 use Rattle.x64_syntax.specs.declared.places.FlagName.{FlagName}
 use Rattle.x64_syntax.specs.declared.places.FlagName.TheVariants.{Cf, Zf, Sf, Of}
-use Rattle.x64_syntax.specs.declared.places.Place.TheVariants.{Reg, Flag}
+use Rattle.x64_syntax.specs.declared.places.MachinePlace.TheVariants.{Reg, Flag}
 use Rattle.x64_syntax.specs.declared.operands.Mem.{Mem}
 use Rattle.x64_syntax.specs.declared.instructions.Ins.{Ins}
 use Rattle.x64_syntax.specs.declared.instructions.Ins.TheVariants.{Push, Pop}
@@ -23,7 +23,7 @@ use Rattle.x64_meaning.specs.declared.machine.Fault.{Fault}
 use Rattle.x64_meaning.specs.declared.machine.Fault.TheVariants.{Outside, UndefinedFlag}
 use Rattle.x64_meaning.specs.State.{State, flag, reg, read, write, load}
 use Rattle.x64_meaning.specs.Exp.{Exp, exp_value, no_words}
-use Rattle.x64_meaning.specs.Table.{holds, address_of, equations, stored_words, load_size, apply, reads}
+use Rattle.x64_meaning.specs.Table.{holds, address_of, equations, stored_words, load_size, store_size, apply, reads}
 
 -- the value of an expression over one state
 abbrev pub value_in : State → Exp → Val
@@ -79,10 +79,13 @@ word_in n (suc k) = word_in (n / T) k
 abbrev pub after : State → (ℕ → Val) → Ins → State
 after s loaded i = after_stack i (apply s loaded (equations i) s)
 
--- the bytes of the words that are stored
+-- the bytes of words, and those of an instruction's words that are stored
 abbrev pub bytes_of : State → List Exp → List ℕ
 bytes_of s [] = []
 bytes_of s (e ∷ es) = to_le_bytes w64 (word (value_in s e)) ++ bytes_of s es
+
+abbrev pub stored_bytes : State → Ins → List ℕ
+stored_bytes s i = take (store_size i) (bytes_of s (stored_words i))
 
 abbrev pub with_loaded : State → Ins → ℕ → ℕ → Option ℕ → Outcome
 with_loaded s i a size None = Faulted (Outside a)
@@ -95,7 +98,7 @@ with_stored s i a size (Some bs) = Done (record (after s no_words i) { blocks = 
 abbrev pub with_access : State → Ins → Access → Outcome
 with_access s i No = Done (after s no_words i) []
 with_access s i (Loads a size) = with_loaded s i a size (load s a size)
-with_access s i (Stores a) = with_stored s i a (length (bytes_of s (stored_words i))) (store s.blocks a (bytes_of s (stored_words i)))
+with_access s i (Stores a) = with_stored s i a (store_size i) (store s.blocks a (stored_bytes s i))
 
 abbrev pub with_flags : State → Ins → Option FlagName → Outcome
 with_flags s i (Some f) = Faulted (UndefinedFlag f)

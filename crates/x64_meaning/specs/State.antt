@@ -2,8 +2,8 @@
 use Rattle.std.specs.Prelude.{◌≡◌, ℕ, zero, suc, ◌<◌, ℤ, pos, List, length, Option, slice_index, slice_index_or, slice_set}
 use Rattle.x64_syntax.specs.declared.places.Reg.{Reg as GeneralReg}
 use Rattle.x64_syntax.specs.declared.places.FlagName.{FlagName}
-use Rattle.x64_syntax.specs.declared.places.Place.{Place}
-use Rattle.x64_syntax.specs.declared.places.Place.TheVariants.{Reg, Xmm, Flag}
+use Rattle.x64_syntax.specs.declared.places.MachinePlace.{MachinePlace}
+use Rattle.x64_syntax.specs.declared.places.MachinePlace.TheVariants.{Reg, Xmm, Flag}
 use Rattle.x64_syntax.specs.Places.{reg_number, xmm_number, flag_number}
 use Rattle.x64_blocks.specs.Memory.{Range, IsMemory, load as load_in}
 use Rattle.x64_syntax.specs.declared.type_words.Sort.{Sort}
@@ -45,17 +45,17 @@ abbrev pub flag : State → FlagName → FlagValue
 flag s f = slice_index_or s.flags (flag_number f) Undefined
 
 -- the sort of what a place holds; a flag is a whole number: 0, 1, or 2 where it is undefined
-abbrev pub place_sort : Place → Sort
+abbrev pub place_sort : MachinePlace → Sort
 place_sort (Reg r) = sort.W64
 place_sort (Xmm x) = sort.W128
 place_sort (Flag f) = sort.Int
 
-abbrev pub read : State → Place → Val
+abbrev pub read : State → MachinePlace → Val
 read s (Reg r) = Word (reg s r)
 read s (Xmm x) = Wide (slice_index s.xmms (xmm_number x))
 read s (Flag f) = Whole (pos (flag_number_of (flag s f)))
 
-abbrev pub write : State → Place → Val → State
+abbrev pub write : State → MachinePlace → Val → State
 write s (Reg r) v = record s { regs = slice_set s.regs (reg_number r) (word v) }
 write s (Xmm x) v = record s { xmms = slice_set s.xmms (xmm_number x) (wide v) }
 write s (Flag f) v = record s { flags = slice_set s.flags (flag_number f) (flag_from (whole v)) }

@@ -5,8 +5,8 @@ use Rattle.std.specs.List.{list_any}
 use Rattle.x64_syntax.specs.declared.places.Reg.TheVariants.{Rax, Rdx}
 use Rattle.x64_syntax.specs.declared.places.FlagName.{FlagName}
 use Rattle.x64_syntax.specs.declared.places.FlagName.TheVariants.{Cf, Zf, Sf, Of}
-use Rattle.x64_syntax.specs.declared.places.Place.{Place}
-use Rattle.x64_syntax.specs.declared.places.Place.TheVariants.{Reg, Xmm, Flag}
+use Rattle.x64_syntax.specs.declared.places.MachinePlace.{MachinePlace}
+use Rattle.x64_syntax.specs.declared.places.MachinePlace.TheVariants.{Reg, Xmm, Flag}
 use Rattle.x64_syntax.specs.declared.places.Reg.{Reg as GeneralReg}
 use Rattle.x64_syntax.specs.declared.operands.Mem.{Mem}
 use Rattle.x64_syntax.specs.declared.operands.Opr.{Opr}
@@ -24,7 +24,7 @@ use Rattle.x64_syntax.specs.declared.instructions.XBinOp.TheVariants as xbin
 use Rattle.x64_syntax.specs.declared.instructions.XShiftOp.{XShiftOp}
 use Rattle.x64_syntax.specs.declared.instructions.XShiftOp.TheVariants as xshift
 use Rattle.x64_syntax.specs.declared.instructions.Ins.{Ins}
-use Rattle.x64_syntax.specs.declared.instructions.Ins.TheVariants.{Mov, Store, Lea, Cmov, Push, Pop, Alu, One, Shift, Imul, Mul, Mulx, Carry, XMov, XLoad, XStore, XBin, XShuf, XShift, XIns, XExt, XMovq}
+use Rattle.x64_syntax.specs.declared.instructions.Ins.TheVariants.{Mov, Store, Load1, Load4, Store4, Lea, Cmov, Push, Pop, Alu, One, Shift, Imul, Mul, Mulx, Carry, XMov, XLoad, XStore, XBin, XShuf, XShift, XIns, XExt, XMovq, XClmul}
 use Rattle.x64_syntax.specs.Instructions.{carry_flag, address_places}
 use Rattle.x64_syntax.specs.declared.type_words.Sort.TheVariants as sort
 use Rattle.term_core.specs.declared.operator.UnOp.TheVariants as un
@@ -39,11 +39,11 @@ use Rattle.x64_meaning.specs.Exp.{Exp, Before, After, Loaded, Int, W64, Un, Bin,
 use Rattle.x64_meaning.specs.Exp as exp
 
 pub record Equation : Type 0 where
-  pub place : Place
+  pub place : MachinePlace
   pub right : Exp
 
 -- the equations of a place and of a flag
-abbrev pub gets : Place → Exp → Equation
+abbrev pub gets : MachinePlace → Exp → Equation
 gets p e = record { place = p; right = e }
 
 abbrev pub sets : FlagName → Exp → Equation
@@ -128,11 +128,11 @@ abbrev pub sum_with_reaches : FlagName → Exp → Exp → Exp
 sum_with_reaches f a s = reaches T (sum (sum (int_of a) (int_of s)) (flag_in f))
 
 -- bit by bit: carry and overflow are 0
-abbrev pub logic_equations : BinOp → Place → Exp → Exp → Exp → List Equation
+abbrev pub logic_equations : BinOp → MachinePlace → Exp → Exp → Exp → List Equation
 logic_equations op d a s r = gets d (Bin op a s) ∷ flags_of r (Int (pos 0)) (Int (pos 0))
 
 -- a is the destination before, s the source, and r the destination after
-abbrev pub alu_equations : AluOp → Place → Exp → Exp → Exp → List Equation
+abbrev pub alu_equations : AluOp → MachinePlace → Exp → Exp → Exp → List Equation
 alu_equations alu.Add d a s r = gets d (sum a s) ∷ flags_of r (reaches T (sum (int_of a) (int_of s))) (sum_overflow a s r)
 alu_equations alu.Adc d a s r = gets d (sum_with Cf a s) ∷ flags_of r (sum_with_reaches Cf a s) (sum_overflow a s r)
 alu_equations alu.Sub d a s r =
@@ -146,7 +146,7 @@ alu_equations alu.And d a s r = logic_equations bin.And d a s r
 alu_equations alu.Or d a s r = logic_equations bin.Or d a s r
 alu_equations alu.Xor d a s r = logic_equations bin.Xor d a s r
 
-abbrev pub one_equations : OneOp → Place → Exp → Exp → List Equation
+abbrev pub one_equations : OneOp → MachinePlace → Exp → Exp → List Equation
 one_equations one.Neg d a r =
     gets d (difference (W64 0) a) ∷ flags_of r (one_unless (Bin bin.Eq a (W64 0))) (one_if (Bin bin.Eq a (W64 (2 ^ 63))))
 one_equations one.Not d a r = gets d (Un un.Not a) ∷ []
@@ -155,10 +155,10 @@ one_equations one.Not d a r = gets d (Un un.Not a) ∷ []
 abbrev pub bit_of : ℕ → Exp → Exp
 bit_of m a = one_if (Bin bin.Eq (Bin bin.And (exp.Shift counted.Shr m a) (W64 1)) (W64 1))
 
-abbrev pub rotates : CountedOp → Place → ℕ → Exp → List Equation
+abbrev pub rotates : CountedOp → MachinePlace → ℕ → Exp → List Equation
 rotates op d n a = gets d (exp.Shift op n a) ∷ sets Cf undefined_flag ∷ sets Of undefined_flag ∷ []
 
-abbrev pub shift_equations : ShiftOp → Place → ℕ → Exp → Exp → List Equation
+abbrev pub shift_equations : ShiftOp → MachinePlace → ℕ → Exp → Exp → List Equation
 shift_equations shift.Shl d n a r = gets d (exp.Shift counted.Shl n a) ∷ flags_of r (bit_of (64 - n) a) undefined_flag
 shift_equations shift.Shr d n a r = gets d (exp.Shift counted.Shr n a) ∷ flags_of r (bit_of (n - 1) a) undefined_flag
 shift_equations shift.Rol d n a r = rotates counted.Rol d n a
@@ -178,7 +178,7 @@ product_equations a s =
     ∷ sets Cf (one_unless (Bin bin.Eq (After (Reg Rdx)) (W64 0))) ∷ sets Zf undefined_flag ∷ sets Sf undefined_flag
     ∷ sets Of (one_unless (Bin bin.Eq (After (Reg Rdx)) (W64 0))) ∷ []
 
-abbrev pub carry_equations : FlagName → Place → Exp → Exp → List Equation
+abbrev pub carry_equations : FlagName → MachinePlace → Exp → Exp → List Equation
 carry_equations f d a s = gets d (sum_with f a s) ∷ sets f (sum_with_reaches f a s) ∷ []
 
 -- the words of an xmm register
@@ -200,6 +200,8 @@ x_bin xbin.Pshufb a s = Bin bin.Pshufb a s
 x_bin xbin.Paddq a s = pair (sum (high a) (high s)) (sum (low a) (low s))
 x_bin xbin.Punpcklqdq a s = pair (low s) (low a)
 x_bin xbin.Punpckhqdq a s = pair (high s) (high a)
+x_bin xbin.Aesenc a s = Bin bin.Aesenc a s
+x_bin xbin.Aesenclast a s = Bin bin.Aesenclast a s
 
 abbrev pub x_shift : XShiftOp → CountedOp
 x_shift xshift.Pslld = counted.Pslld
@@ -227,6 +229,9 @@ address_of m = sum (scaled_of (Before (Reg m.base)) m.index) (W64 (word_of m.dis
 abbrev pub equations : Ins → List Equation
 equations (Mov d s) = gets (Reg d) (source s) ∷ []
 equations (Store m s) = []
+equations (Load1 d m) = gets (Reg d) (Loaded 0) ∷ []
+equations (Load4 d m) = gets (Reg d) (Loaded 0) ∷ []
+equations (Store4 m s) = []
 equations (Lea d m) = gets (Reg d) (address_of m) ∷ []
 equations (Cmov c d s) = gets (Reg d) (Ite (holds c) (Before (Reg s)) (Before (Reg d))) ∷ []
 equations (Push s) = []
@@ -250,42 +255,39 @@ equations (XShift op d n) = gets (Xmm d) (exp.Shift (x_shift op) n (Before (Xmm 
 equations (XIns d s n) = gets (Xmm d) (insertion n (Before (Xmm d)) (Before (Reg s))) ∷ []
 equations (XExt d s n) = gets (Reg d) (extraction n (Before (Xmm s))) ∷ []
 equations (XMovq d s) = gets (Xmm d) (pair (W64 0) (Before (Reg s))) ∷ []
+equations (XClmul d s n) = gets (Xmm d) (exp.Clmul (Before (Xmm d)) (Before (Xmm s)) n) ∷ []
 
 -- the words that are stored, at the memory operand or on the stack, the lowest first
 abbrev pub stored_words : Ins → List Exp
 stored_words (Store m s) = Before (Reg s) ∷ []
+stored_words (Store4 m s) = Before (Reg s) ∷ []
 stored_words (Push s) = Before (Reg s) ∷ []
 stored_words (XStore m s) = low (Before (Xmm s)) ∷ high (Before (Xmm s)) ∷ []
 stored_words _ = []
 
--- the instructions on general registers, flags and memory
-abbrev pub is_general : Ins → Bool
-is_general (XMov d s) = false
-is_general (XLoad d m) = false
-is_general (XStore m s) = false
-is_general (XBin op d s) = false
-is_general (XShuf d s n) = false
-is_general (XShift op d n) = false
-is_general (XIns d s n) = false
-is_general (XExt d s n) = false
-is_general (XMovq d s) = false
-is_general i = true
-
--- how many bytes are loaded
+-- how many bytes are loaded, as the lowest of the words
 abbrev pub load_size : Ins → ℕ
+load_size (Load1 d m) = 1
+load_size (Load4 d m) = 4
 load_size (XLoad d m) = 16
 load_size _ = 8
 
+-- how many bytes are stored, the lowest of the words
+abbrev pub store_size : Ins → ℕ
+store_size (Store4 m s) = 4
+store_size (XStore m s) = 16
+store_size _ = 8
+
 -- what an instruction writes
-abbrev pub writes : Ins → List Place
+abbrev pub writes : Ins → List MachinePlace
 writes i = map (λ e. e.place) (equations i)
 
 -- an instruction reads the value before of the place
-abbrev pub reads : Ins → Place → Bool
+abbrev pub reads : Ins → MachinePlace → Bool
 reads i p = list_any (λ e. takes p e.right) (equations i) || list_any (takes p) (stored_words i)
 
 -- the base and index registers of the memory operand of an access
-abbrev pub memory_places : Option Mem → List Place
+abbrev pub memory_places : Option Mem → List MachinePlace
 memory_places None = []
 memory_places (Some m) = address_places m
 
@@ -296,7 +298,7 @@ apply before loaded (e ∷ es) now =
     apply before loaded es (write now e.place (exp_value (read before) (read now) loaded e.right))
 
 -- the right side gives what the place can hold: a word, or one of 0, 1 and 2
-abbrev pub suits : Place → Exp → Bool
+abbrev pub suits : MachinePlace → Exp → Bool
 suits (Reg r) e = sort_eq (exp_sort e) sort.W64
 suits (Xmm x) e = sort_eq (exp_sort e) sort.W128
 suits (Flag f) (Ite c (Int (pos m)) (Int (pos n))) = nat_le m 2 && nat_le n 2
@@ -304,7 +306,7 @@ suits (Flag f) (Int (pos n)) = nat_le n 2
 suits _ _ = false
 
 -- Each place is written once, and its value after is taken only once it is written.
-abbrev pub in_order : List Place → List Equation → Bool
+abbrev pub in_order : List MachinePlace → List Equation → Bool
 in_order done [] = true
 in_order done (e ∷ es) =
     suits e.place e.right && (knows done e.right && (not (among done e.place) && in_order (e.place ∷ done) es))

@@ -3,7 +3,7 @@
 ghost use Rattle.std.specs.Prelude.{◌≡◌, ◌<◌, ◌^◌, ◌||◌, true, List, ℕ, length};
 ghost use Rattle.std.specs.List.{list_all};
 ghost use Rattle.x64_syntax.specs.declared.instructions.Ins.{Ins};
-ghost use Rattle.x64_syntax.specs.declared.places.Place.{Place};
+ghost use Rattle.x64_syntax.specs.declared.places.MachinePlace.{MachinePlace};
 ghost use Rattle.x64_syntax.specs.Instructions.{accesses, read_places, written_places, is_among};
 ghost use Rattle.x64_meaning.specs.Table.{reads, writes, memory_places};
 ghost use Rattle.x64_meaning.specs.Contract.{Contract, Meets, SameRuns};
@@ -22,5 +22,5 @@ pub fn straight_code()
 /// index registers.
 pub fn forms_as_in_the_table()
     ensures writes { (i : Ins) → written_places i ≡ writes i }
-    ensures reads { (i : Ins) (p : Place) → is_among (read_places i) p ≡ (reads i p || is_among (memory_places (accesses i)) p) }
+    ensures reads { (i : Ins) (p : MachinePlace) → is_among (read_places i) p ≡ (reads i p || is_among (memory_places (accesses i)) p) }
 {}

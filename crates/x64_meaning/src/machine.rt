@@ -56,7 +56,7 @@ pub(crate) fn are_words(regs: [u64; 16])
     ensures fits { (k : ℕ) → slice_index regs k < T }
 {}
 
-fn are_wide_words(xmms: [u128; 16])
+pub(crate) fn are_wide_words(xmms: [u128; 16])
     ensures length { length xmms ≡ 16 }
     ensures fits { (k : ℕ) → slice_index xmms k < T128 }
 {}

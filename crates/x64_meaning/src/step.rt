@@ -1,65 +1,24 @@
 // One step of the machine.
 
-ghost use Rattle.std.specs.Prelude.{◌≡◌, ◌<◌, ℕ, List, [], ◌∷◌, length, slice_index, true, is_ok, IfOk};
+ghost use Rattle.std.specs.Prelude.{◌≡◌, ◌<◌, [], ◌∷◌, true, is_ok, IfOk};
 ghost use Rattle.std.specs.List.{find};
-ghost use Rattle.std.specs.Int.{to_le_bytes, w64};
-ghost use Rattle.x64_syntax.specs.declared.instructions.Ins.TheVariants as ins;
-ghost use Rattle.x64_syntax.specs.declared.places.Place.TheVariants as place;
+ghost use Rattle.x64_syntax.specs.declared.places.MachinePlace.TheVariants as place;
 ghost use Rattle.x64_syntax.specs.Instructions.{form_of, read_places, is_among, cond_flags};
-ghost use Rattle.x64_blocks.specs.Memory.{store};
-ghost use Rattle.term_core.specs.Value.{T, word_of};
-ghost use Rattle.x64_meaning.specs.State.{flag, load};
-ghost use Rattle.x64_meaning.specs.Run.{is_undefined, address, access, with_access, does, cond_holds, first_undefined};
-ghost use Rattle.x64_meaning.specs.Table.{is_general};
-ghost use Rattle.x64_meaning.specs.inner.Steps.{flags_meet, address_sum, load_result, source_word, input_word, effect, Fits, read_flag_fault, flag_fault, Puts, Acts, Steps, Foresees, WouldPut};
+ghost use Rattle.term_core.specs.Value.{T};
+ghost use Rattle.x64_meaning.specs.State.{flag};
+ghost use Rattle.x64_meaning.specs.Run.{is_undefined, access, with_access, does, cond_holds, first_undefined};
+ghost use Rattle.x64_meaning.specs.inner.Steps.{flags_meet, source_word, input_word, effect, Fits, read_flag_fault, flag_fault, Acts, Steps, Foresees};
 
 use crate::arithmetic::{
     add_with, alu, is_set, multiply, multiply_apart, multiply_wide, one, shift,
 };
 use crate::laws::forms_as_in_the_table;
-use crate::machine::{Fault, Flag, Machine, Obs, Seen, are_words};
-use x64_syntax::{Cond, FlagName, Ins, Mem, Opr, Place, Reg, reads_of};
-
-fn displacement(mem: &Mem) -> u64
-    ensures { result ≡ word_of mem.now.disp }
-{
-    i64::from(mem.disp).cast_unsigned()
-}
-
-// Base, index and displacement, added modulo 2^64.
-fn address_sum(m: &Machine, mem: &Mem) -> u64
-    ensures { result ≡ address_sum m.now mem.now }
-{
-    let base = m.regs[mem.base.number()];
-    let index = match mem.index {
-        Some((index, scale)) => m.regs[index.number()].wrapping_mul(u64::from(scale)),
-        None => 0,
-    };
-    base.wrapping_add(index).wrapping_add(displacement(mem))
-}
-
-// The address of a memory operand, as in the table.
-fn address(m: &Machine, mem: &Mem) -> u64
-    ensures { result ≡ address m.now mem.now }
-{
-    m.is_a_state();
-    address_sum(m, mem)
-}
-
-// The word at an address, and the access.
-fn load(m: &Machine, address: u64) -> Result<(u64, Option<Obs>), Fault>
-    ensures { result ≡ load_result address (load m.now address 8) }
-{
-    let access = Obs::Access {
-        address,
-        size: 8,
-        write: false,
-    };
-    match m.blocks.load8(address) {
-        Ok(word) => Ok((word, Some(access))),
-        Err(_) => Err(Fault::Outside { address }),
-    }
-}
+use crate::machine::{Fault, Flag, Machine, Obs, Seen, are_wide_words, are_words};
+use crate::memory::{
+    address, fetch_wide, load1, load4, load8, push, save, save_low, save_wide, would_get, would_put,
+};
+use crate::wide::compute_wide;
+use x64_syntax::{Cond, FlagName, Ins, MachinePlace, Opr, Reg, reads_of};
 
 // The word of a source, and the access that it took.
 fn source(m: &Machine, s: &Opr) -> Result<(u64, Option<Obs>), Fault>
@@ -68,7 +27,7 @@ fn source(m: &Machine, s: &Opr) -> Result<(u64, Option<Obs>), Fault>
     match s {
         Opr::R(reg) => Ok((m.regs[reg.number()], None)),
         Opr::Imm(n) => Ok((n.cast_unsigned(), None)),
-        Opr::M(mem) => load(m, address(m, mem)),
+        Opr::M(mem) => load8(m, address(m, mem)),
     }
 }
 
@@ -79,6 +38,7 @@ fn taken(m: &Machine, ins: &Ins) -> Result<(u64, Option<Obs>), Fault>
     ensures word { IfOk result (λ r. r.0 < T) }
 {
     are_words(m.regs);
+    are_wide_words(m.xmms);
     let rsp = m.regs[Reg::Rsp.number()];
     match ins {
         Ins::Mov { s, .. }
@@ -87,7 +47,9 @@ fn taken(m: &Machine, ins: &Ins) -> Result<(u64, Option<Obs>), Fault>
         | Ins::Mul { s }
         | Ins::Mulx { s, .. }
         | Ins::Carry { s, .. } => source(m, s),
-        Ins::Pop { .. } => load(m, rsp),
+        Ins::Load1 { m: mem, .. } => load1(m, address(m, mem)),
+        Ins::Load4 { m: mem, .. } => load4(m, address(m, mem)),
+        Ins::Pop { .. } => load8(m, rsp),
         _ => Ok((0, None)),
     }
 }
@@ -98,7 +60,9 @@ fn compute(m: &mut Machine, ins: &Ins, word: u64)
     ensures { m.new ≡ effect ins.now m.old word }
 {
     match ins {
-        Ins::Mov { d, .. } => m.regs[d.number()] = word,
+        Ins::Mov { d, .. } | Ins::Load1 { d, .. } | Ins::Load4 { d, .. } => {
+            m.regs[d.number()] = word;
+        }
         Ins::Lea { d, m: mem } => m.regs[d.number()] = address(m, mem),
         Ins::Cmov { c, d, s } => {
             let from = if holds(m, *c) { *s } else { *d };
@@ -115,7 +79,7 @@ fn compute(m: &mut Machine, ins: &Ins, word: u64)
         Ins::Mul { .. } => multiply_wide(m, word),
         Ins::Mulx { hi, lo, .. } => multiply_apart(m, *hi, *lo, word),
         Ins::Carry { op, d, .. } => add_with(m, op.flag(), *d, word),
-        _ => {}
+        _ => compute_wide(m, ins),
     }
 }
 
@@ -142,46 +106,16 @@ pub fn holds(m: &Machine, c: Cond) -> bool
     flags_meet(m, c)
 }
 
-// Stores a word, and what an observer sees of it.
-fn store(m: &mut Machine, address: u64, word: u64) -> Result<Option<Obs>, Fault>
-    ensures { Puts (store m.old.blocks address (to_le_bytes w64 word)) address m.old m.new result }
-{
-    let access = Obs::Access {
-        address,
-        size: 8,
-        write: true,
-    };
-    match m.blocks.store8(address, word) {
-        Ok(()) => Ok(Some(access)),
-        Err(_) => Err(Fault::Outside { address }),
-    }
-}
-
-// Stores a register at a memory operand.
-fn save(m: &mut Machine, mem: &Mem, s: Reg) -> Result<Option<Obs>, Fault>
-    ensures { Acts (with_access m.old (ins.Store mem.now s) (access m.old (ins.Store mem.now s))) m.old m.new result }
-{
-    store(m, address(m, mem), m.regs[s.number()])
-}
-
-// Stores a register below the stack pointer, and lowers it.
-fn push(m: &mut Machine, s: Reg) -> Result<Option<Obs>, Fault>
-    ensures { Acts (with_access m.old (ins.Push s) (access m.old (ins.Push s))) m.old m.new result }
-{
-    let slot = m.regs[Reg::Rsp.number()].wrapping_sub(8);
-    let seen = store(m, slot, m.regs[s.number()])?;
-    m.regs[Reg::Rsp.number()] = slot;
-    Ok(seen)
-}
-
 // Does what an instruction does whose flags are defined, and gives what an observer sees.
 fn act(m: &mut Machine, ins: &Ins) -> Result<Option<Obs>, Fault>
-    requires form { is_ok (form_of ins.now) ≡ true }
-    requires general { is_general ins.now ≡ true }
+    requires { is_ok (form_of ins.now) ≡ true }
     ensures { Acts (with_access m.old ins.now (access m.old ins.now)) m.old m.new result }
 {
     match ins {
         Ins::Store { m: mem, s } => save(m, mem, *s),
+        Ins::Store4 { m: mem, s } => save_low(m, mem, *s),
+        Ins::XStore { m: mem, s } => save_wide(m, mem, *s),
+        Ins::XLoad { d, m: mem } => fetch_wide(m, *d, mem),
         Ins::Push { s } => push(m, *s),
         _ => {
             let (word, seen) = taken(m, ins)?;
@@ -218,7 +152,7 @@ pub fn open_flag(m: &Machine, c: Cond) -> Option<FlagName>
 fn is_defined(m: &Machine, ins: &Ins, flag: FlagName) -> Result<(), Fault>
     ensures { result ≡ read_flag_fault (λ f. is_among (read_places ins.now) (place.Flag f)) m.now flag }
 {
-    if reads_of(ins).contains(Place::Flag(flag)) && is_open(m, flag) {
+    if reads_of(ins).contains(MachinePlace::Flag(flag)) && is_open(m, flag) {
         return Err(Fault::UndefinedFlag { flag });
     }
     Ok(())
@@ -234,29 +168,10 @@ fn are_defined(m: &Machine, ins: &Ins) -> Result<(), Fault>
     is_defined(m, ins, FlagName::Of)
 }
 
-/// Whether an instruction works on general registers, flags and memory alone.
-pub fn is_general(ins: &Ins) -> bool
-    ensures { result ≡ is_general ins.now }
-{
-    !matches!(
-        ins,
-        Ins::XMov { .. }
-            | Ins::XLoad { .. }
-            | Ins::XStore { .. }
-            | Ins::XBin { .. }
-            | Ins::XShuf { .. }
-            | Ins::XShift { .. }
-            | Ins::XIns { .. }
-            | Ins::XExt { .. }
-            | Ins::XMovq { .. }
-    )
-}
-
 /// One step: what the instruction does, and what an observer sees of it. After a fault the machine is as before, and
 /// nothing is seen. See docs/MACHINE.md.
 pub fn step_ins(m: &mut Machine, ins: &Ins, seen: &mut Seen) -> Result<(), Fault>
-    requires form { is_ok (form_of ins.now) ≡ true }
-    requires general { is_general ins.now ≡ true }
+    requires { is_ok (form_of ins.now) ≡ true }
     ensures { Steps (does ins.now m.old) m.old m.new seen.new.last result }
 {
     forms_as_in_the_table();
@@ -266,28 +181,16 @@ pub fn step_ins(m: &mut Machine, ins: &Ins, seen: &mut Seen) -> Result<(), Fault
     Ok(())
 }
 
-// What a store of a word would show: it succeeds where a load does.
-fn would_put(m: &Machine, address: u64) -> Result<Option<Obs>, Fault>
-    ensures { (new : List ℕ) → length new ≡ 8 → WouldPut (store m.now.blocks address new) address result }
-{
-    match m.blocks.load8(address) {
-        Ok(_) => Ok(Some(Obs::Access {
-            address,
-            size: 8,
-            write: true,
-        })),
-        Err(_) => Err(Fault::Outside { address }),
-    }
-}
-
 // What an instruction whose flags are defined would show, or its fault.
 fn would_act(m: &Machine, ins: &Ins) -> Result<Option<Obs>, Fault>
-    requires { is_general ins.now ≡ true }
     ensures { Foresees (with_access m.now ins.now (access m.now ins.now)) result }
 {
     match ins {
-        Ins::Store { m: mem, .. } => would_put(m, address(m, mem)),
-        Ins::Push { .. } => would_put(m, m.regs[Reg::Rsp.number()].wrapping_sub(8)),
+        Ins::Store { m: mem, .. } => would_put(m, address(m, mem), 8),
+        Ins::Store4 { m: mem, .. } => would_put(m, address(m, mem), 4),
+        Ins::XStore { m: mem, .. } => would_put(m, address(m, mem), 16),
+        Ins::XLoad { m: mem, .. } => would_get(m, address(m, mem), 16),
+        Ins::Push { .. } => would_put(m, m.regs[Reg::Rsp.number()].wrapping_sub(8), 8),
         _ => {
             let (_, seen) = taken(m, ins)?;
             Ok(seen)
@@ -297,7 +200,6 @@ fn would_act(m: &Machine, ins: &Ins) -> Result<Option<Obs>, Fault>
 
 /// What an observer would see of a step, or its fault; the machine stays as it is.
 pub fn foresee(m: &Machine, ins: &Ins) -> Result<Option<Obs>, Fault>
-    requires { is_general ins.now ≡ true }
     ensures { Foresees (does ins.now m.now) result }
 {
     forms_as_in_the_table();

@@ -7,21 +7,21 @@ ghost use Rattle.x64_meaning.specs.Condition.{version_name, version};
 
 use std::alloc::{AllocError as NoMemory, Global};
 use term_core::Term;
-use x64_syntax::{Place, Sort, Text, push_number};
+use x64_syntax::{MachinePlace, Sort, Text, push_number};
 
 /// The sort of what a place holds. A flag is a whole number: 0, 1, or 2 where it is undefined.
-pub fn place_sort(place: Place) -> Sort
+pub fn place_sort(place: MachinePlace) -> Sort
     ensures { result ≡ place_sort place }
 {
     match place {
-        Place::Reg(_) => Sort::W64,
-        Place::Xmm(_) => Sort::W128,
-        Place::Flag(_) => Sort::Int,
+        MachinePlace::Reg(_) => Sort::W64,
+        MachinePlace::Xmm(_) => Sort::W128,
+        MachinePlace::Flag(_) => Sort::Int,
     }
 }
 
 /// The name of a place's value at a version, as `rax.0`.
-pub fn version_name(alloc: Global, place: Place, number: u64) -> Result<Text, NoMemory>
+pub fn version_name(alloc: Global, place: MachinePlace, number: u64) -> Result<Text, NoMemory>
     ensures { IfOk result (λ t. t ≡ version_name place number) }
 {
     let mut name = Vec::from_slice(alloc, place.name().as_bytes())?;
@@ -31,7 +31,7 @@ pub fn version_name(alloc: Global, place: Place, number: u64) -> Result<Text, No
 }
 
 /// A place's value at a version, as a term.
-pub fn version(alloc: Global, place: Place, number: u64) -> Result<Term, NoMemory>
+pub fn version(alloc: Global, place: MachinePlace, number: u64) -> Result<Term, NoMemory>
     ensures { IfOk result (λ t. tree t ≡ version place number) }
 {
     let name = version_name(alloc, place, number)?;

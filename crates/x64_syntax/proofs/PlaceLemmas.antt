@@ -8,8 +8,8 @@ use Rattle.x64_syntax.specs.declared.places.Xmm.{Xmm as XmmReg}
 use Rattle.x64_syntax.specs.declared.places.Xmm.TheVariants.{Xmm0, Xmm1, Xmm2, Xmm3, Xmm4, Xmm5, Xmm6, Xmm7, Xmm8, Xmm9, Xmm10, Xmm11, Xmm12, Xmm13, Xmm14, Xmm15}
 use Rattle.x64_syntax.specs.declared.places.FlagName.{FlagName}
 use Rattle.x64_syntax.specs.declared.places.FlagName.TheVariants.{Cf, Zf, Sf, Of}
-use Rattle.x64_syntax.specs.declared.places.Place.{Place}
-use Rattle.x64_syntax.specs.declared.places.Place.TheVariants.{Reg, Xmm, Flag}
+use Rattle.x64_syntax.specs.declared.places.MachinePlace.{MachinePlace}
+use Rattle.x64_syntax.specs.declared.places.MachinePlace.TheVariants.{Reg, Xmm, Flag}
 use Rattle.x64_syntax.specs.Places.{reg_number, xmm_number, flag_number, reg_eq, xmm_eq, flag_eq, place_eq, all_regs, all_xmms, all_flags}
 
 reg_back : (p : GeneralReg) → slice_index_or all_regs (reg_number p) Rax ≡ p
@@ -114,7 +114,7 @@ flag_eq_is a b h = sym (flag_back a) ∙ ap (λ n. slice_index_or all_flags n Cf
 pub flag_eq_same : (a : FlagName) → flag_eq a a ≡ true
 flag_eq_same a = eq-eqb (flag_number a) (flag_number a) refl
 
-pub place_eq_is : (a b : Place) → place_eq a b ≡ true → a ≡ b
+pub place_eq_is : (a b : MachinePlace) → place_eq a b ≡ true → a ≡ b
 place_eq_is (Reg a) (Reg b) h = ap Reg (reg_eq_is a b h)
 place_eq_is (Xmm a) (Xmm b) h = ap Xmm (xmm_eq_is a b h)
 place_eq_is (Flag a) (Flag b) h = ap Flag (flag_eq_is a b h)
@@ -125,7 +125,7 @@ place_eq_is (Xmm a) (Flag b) h = cc
 place_eq_is (Flag a) (Reg b) h = cc
 place_eq_is (Flag a) (Xmm b) h = cc
 
-pub place_eq_same : (a : Place) → place_eq a a ≡ true
+pub place_eq_same : (a : MachinePlace) → place_eq a a ≡ true
 place_eq_same (Reg a) = reg_eq_same a
 place_eq_same (Xmm a) = xmm_eq_same a
 place_eq_same (Flag a) = flag_eq_same a

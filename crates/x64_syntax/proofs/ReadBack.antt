@@ -19,7 +19,7 @@ use Rattle.x64_syntax.specs.declared.instructions.XShiftOp.TheVariants as xshift
 use Rattle.x64_syntax.specs.declared.operations.Operation.{Operation}
 use Rattle.x64_syntax.specs.declared.operations.Operation.TheVariants as op
 use Rattle.x64_syntax.specs.Names.{first_of_name}
-use Rattle.x64_syntax.specs.Places.{reg_name, xmm_name, flag_name, reg_of, xmm_of, flag_of}
+use Rattle.x64_syntax.specs.Places.{reg_name, low_name, xmm_name, flag_name, reg_of, low_of, xmm_of, flag_of}
 use Rattle.x64_syntax.specs.Operations.{spelling, operations, operation_name}
 use Rattle.x64_syntax.specs.Words.{operation_of}
 
@@ -40,6 +40,24 @@ reg_back R12 = refl
 reg_back R13 = refl
 reg_back R14 = refl
 reg_back R15 = refl
+
+pub low_back : (r : Reg) → low_of (low_name r) ≡ Some r
+low_back Rax = refl
+low_back Rbx = refl
+low_back Rcx = refl
+low_back Rdx = refl
+low_back Rsi = refl
+low_back Rdi = refl
+low_back Rbp = refl
+low_back Rsp = refl
+low_back R8 = refl
+low_back R9 = refl
+low_back R10 = refl
+low_back R11 = refl
+low_back R12 = refl
+low_back R13 = refl
+low_back R14 = refl
+low_back R15 = refl
 
 pub xmm_back : (x : Xmm) → xmm_of (xmm_name x) ≡ Some x
 xmm_back Xmm0 = refl
@@ -69,6 +87,9 @@ pub operation_back : (o : Operation) → operation_of (operation_name o) ≡ Som
 unfolding spelling operations
 operation_back op.Mov = refl
 operation_back op.Store = refl
+operation_back op.Load1 = refl
+operation_back op.Load4 = refl
+operation_back op.Store4 = refl
 operation_back op.Lea = refl
 operation_back (op.Cmov cond.E) = refl
 operation_back (op.Cmov cond.Ne) = refl
@@ -106,6 +127,8 @@ operation_back (op.XBin xbin.Pshufb) = refl
 operation_back (op.XBin xbin.Paddq) = refl
 operation_back (op.XBin xbin.Punpcklqdq) = refl
 operation_back (op.XBin xbin.Punpckhqdq) = refl
+operation_back (op.XBin xbin.Aesenc) = refl
+operation_back (op.XBin xbin.Aesenclast) = refl
 operation_back op.XShuf = refl
 operation_back (op.XShift xshift.Pslld) = refl
 operation_back (op.XShift xshift.Psrld) = refl
@@ -114,6 +137,7 @@ operation_back (op.XShift xshift.Psrldq) = refl
 operation_back op.XIns = refl
 operation_back op.XExt = refl
 operation_back op.XMovq = refl
+operation_back op.XClmul = refl
 
 -- what is found in a list is in it
 found_is_in : {A : Type 0} (p : A → Bool) (xs : List A) (x : A) → find p xs ≡ Some x → Contains xs x

@@ -6,8 +6,8 @@ use Rattle.x64_syntax.specs.declared.places.Reg.{Reg as GeneralReg}
 use Rattle.x64_syntax.specs.declared.places.Reg.TheVariants.{Rax, Rdx, Rsp}
 use Rattle.x64_syntax.specs.declared.places.FlagName.{FlagName}
 use Rattle.x64_syntax.specs.declared.places.FlagName.TheVariants.{Cf, Zf, Of}
-use Rattle.x64_syntax.specs.declared.places.Place.{Place}
-use Rattle.x64_syntax.specs.declared.places.Place.TheVariants.{Reg, Xmm, Flag}
+use Rattle.x64_syntax.specs.declared.places.MachinePlace.{MachinePlace}
+use Rattle.x64_syntax.specs.declared.places.MachinePlace.TheVariants.{Reg, Xmm, Flag}
 use Rattle.x64_syntax.specs.declared.operands.Mem.{Mem}
 use Rattle.x64_syntax.specs.declared.operands.Opr.{Opr}
 use Rattle.x64_syntax.specs.declared.operands.Opr.TheVariants.{R, Imm, M}
@@ -22,7 +22,7 @@ use Rattle.x64_syntax.specs.declared.instructions.ShiftOp.TheVariants as shift
 use Rattle.x64_syntax.specs.declared.instructions.CarryOp.{CarryOp}
 use Rattle.x64_syntax.specs.declared.instructions.CarryOp.TheVariants as carry
 use Rattle.x64_syntax.specs.declared.instructions.Ins.{Ins}
-use Rattle.x64_syntax.specs.declared.instructions.Ins.TheVariants.{Mov, Store, Lea, Cmov, Push, Pop, Alu, One, Shift, Imul, Mul, Mulx, Carry, XMov, XLoad, XStore, XBin, XShuf, XShift, XIns, XExt, XMovq}
+use Rattle.x64_syntax.specs.declared.instructions.Ins.TheVariants.{Mov, Store, Load1, Load4, Store4, Lea, Cmov, Push, Pop, Alu, One, Shift, Imul, Mul, Mulx, Carry, XMov, XLoad, XStore, XBin, XShuf, XShift, XIns, XExt, XMovq, XClmul}
 use Rattle.x64_syntax.specs.declared.forms.FormFault.{FormFault}
 use Rattle.x64_syntax.specs.declared.forms.FormFault.TheVariants.{Immediate, Count, Scale, Register, SameHighLow}
 use Rattle.x64_syntax.specs.Ranges.{is_i32, is_i64, is_u8}
@@ -52,6 +52,10 @@ constant_fits (Mulx high low s) = no_constant s
 constant_fits (Carry op d s) = no_constant s
 constant_fits _ = true
 
+-- bit 0 chooses a word of the one register, and bit 4 a word of the other
+abbrev pub chooses_words : ℕ → Bool
+chooses_words n = ((n == 0) || (n == 1)) || ((n == 16) || (n == 17))
+
 -- shifts go by 1 to 63 bits, an xmm register has the words 0 and 1, and its shifts and picks go by a byte
 abbrev pub count_fits : Ins → Bool
 count_fits (Shift op d n) = nat_le 1 n && nat_le n 63
@@ -59,6 +63,7 @@ count_fits (XIns d s n) = nat_le n 1
 count_fits (XExt d s n) = nat_le n 1
 count_fits (XShuf d s n) = is_u8 n
 count_fits (XShift op d n) = is_u8 n
+count_fits (XClmul d s n) = chooses_words n
 count_fits _ = true
 
 abbrev pub source_memory : Opr → Option Mem
@@ -73,12 +78,15 @@ loads_from (Imul d s) = source_memory s
 loads_from (Mul s) = source_memory s
 loads_from (Mulx high low s) = source_memory s
 loads_from (Carry op d s) = source_memory s
+loads_from (Load1 d m) = Some m
+loads_from (Load4 d m) = Some m
 loads_from (XLoad d m) = Some m
 loads_from _ = None
 
 -- the memory operand that is stored to
 abbrev pub stores_to : Ins → Option Mem
 stores_to (Store m s) = Some m
+stores_to (Store4 m s) = Some m
 stores_to (XStore m s) = Some m
 stores_to _ = None
 
@@ -113,11 +121,11 @@ has_scale None = true
 has_scale (Some m) = is_scale m.index
 
 -- the registers of an address
-abbrev pub address_places : Mem → List Place
+abbrev pub address_places : Mem → List MachinePlace
 address_places m = Reg m.base ∷ map Reg (index_registers m.index)
 
 -- the registers of a source
-abbrev pub source_places : Opr → List Place
+abbrev pub source_places : Opr → List MachinePlace
 source_places (R r) = Reg r ∷ []
 source_places (Imm z) = []
 source_places (M m) = address_places m
@@ -132,7 +140,7 @@ cond_flags Be = Cf ∷ Zf ∷ []
 cond_flags A = Cf ∷ Zf ∷ []
 
 -- the flag that a sum or difference takes in
-abbrev pub alu_reads : AluOp → List Place
+abbrev pub alu_reads : AluOp → List MachinePlace
 alu_reads alu.Adc = Flag Cf ∷ []
 alu_reads alu.Sbb = Flag Cf ∷ []
 alu_reads _ = []
@@ -142,9 +150,12 @@ carry_flag carry.Adcx = Cf
 carry_flag carry.Adox = Of
 
 -- the places that an instruction reads: its sources with base and index, its destination where it is combined, and flags
-abbrev pub read_places : Ins → List Place
+abbrev pub read_places : Ins → List MachinePlace
 read_places (Mov d s) = source_places s
 read_places (Store m s) = Reg s ∷ address_places m
+read_places (Load1 d m) = address_places m
+read_places (Load4 d m) = address_places m
+read_places (Store4 m s) = Reg s ∷ address_places m
 read_places (Lea d m) = address_places m
 read_places (Cmov c d s) = Reg s ∷ Reg d ∷ map Flag (cond_flags c)
 read_places (Push s) = Reg s ∷ []
@@ -165,28 +176,32 @@ read_places (XShift op d n) = Xmm d ∷ []
 read_places (XIns d s n) = Xmm d ∷ Reg s ∷ []
 read_places (XExt d s n) = Xmm s ∷ []
 read_places (XMovq d s) = Reg s ∷ []
+read_places (XClmul d s n) = Xmm d ∷ Xmm s ∷ []
 
-abbrev pub flag_places : List Place
+abbrev pub flag_places : List MachinePlace
 flag_places = map Flag all_flags
 
-abbrev pub alu_writes : AluOp → GeneralReg → List Place
+abbrev pub alu_writes : AluOp → GeneralReg → List MachinePlace
 alu_writes alu.Cmp d = flag_places
 alu_writes _ d = Reg d ∷ flag_places
 
-abbrev pub one_writes : OneOp → GeneralReg → List Place
+abbrev pub one_writes : OneOp → GeneralReg → List MachinePlace
 one_writes one.Neg d = Reg d ∷ flag_places
 one_writes one.Not d = Reg d ∷ []
 
-abbrev pub shift_writes : ShiftOp → GeneralReg → List Place
+abbrev pub shift_writes : ShiftOp → GeneralReg → List MachinePlace
 shift_writes shift.Shl d = Reg d ∷ flag_places
 shift_writes shift.Shr d = Reg d ∷ flag_places
 shift_writes shift.Rol d = Reg d ∷ Flag Cf ∷ Flag Of ∷ []
 shift_writes shift.Ror d = Reg d ∷ Flag Cf ∷ Flag Of ∷ []
 
 -- the places that an instruction writes
-abbrev pub written_places : Ins → List Place
+abbrev pub written_places : Ins → List MachinePlace
 written_places (Mov d s) = Reg d ∷ []
 written_places (Store m s) = []
+written_places (Load1 d m) = Reg d ∷ []
+written_places (Load4 d m) = Reg d ∷ []
+written_places (Store4 m s) = []
 written_places (Lea d m) = Reg d ∷ []
 written_places (Cmov c d s) = Reg d ∷ []
 written_places (Push s) = []
@@ -207,8 +222,9 @@ written_places (XShift op d n) = Xmm d ∷ []
 written_places (XIns d s n) = Xmm d ∷ []
 written_places (XExt d s n) = Reg d ∷ []
 written_places (XMovq d s) = Xmm d ∷ []
+written_places (XClmul d s n) = Xmm d ∷ []
 
-abbrev pub is_among : List Place → Place → Bool
+abbrev pub is_among : List MachinePlace → MachinePlace → Bool
 is_among places p = list_any (place_eq p) places
 
 -- rsp is no operand, base or index: PUSH and POP alone use it, without naming it

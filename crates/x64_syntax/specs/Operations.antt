@@ -24,6 +24,9 @@ spelling_of name gas masm = record { name = codes name; gas = codes gas; masm = 
 unfoldable pub spelling : Operation → Spelling
 spelling op.Mov = spelling_of "Mov64" "movq" "mov"
 spelling op.Store = spelling_of "Store64" "movq" "mov"
+spelling op.Load1 = spelling_of "Movzx8" "movzbq" "movzx"
+spelling op.Load4 = spelling_of "Mov32" "movl" "mov"
+spelling op.Store4 = spelling_of "Store32" "movl" "mov"
 spelling op.Lea = spelling_of "Lea64" "leaq" "lea"
 spelling (op.Cmov cond.E) = spelling_of "Cmove" "cmove" "cmove"
 spelling (op.Cmov cond.Ne) = spelling_of "Cmovne" "cmovne" "cmovne"
@@ -61,6 +64,8 @@ spelling (op.XBin xbin.Pshufb) = spelling_of "Pshufb" "pshufb" "pshufb"
 spelling (op.XBin xbin.Paddq) = spelling_of "Paddq" "paddq" "paddq"
 spelling (op.XBin xbin.Punpcklqdq) = spelling_of "Punpcklqdq" "punpcklqdq" "punpcklqdq"
 spelling (op.XBin xbin.Punpckhqdq) = spelling_of "Punpckhqdq" "punpckhqdq" "punpckhqdq"
+spelling (op.XBin xbin.Aesenc) = spelling_of "Aesenc" "aesenc" "aesenc"
+spelling (op.XBin xbin.Aesenclast) = spelling_of "Aesenclast" "aesenclast" "aesenclast"
 spelling op.XShuf = spelling_of "Pshufd" "pshufd" "pshufd"
 spelling (op.XShift xshift.Pslld) = spelling_of "Pslld" "pslld" "pslld"
 spelling (op.XShift xshift.Psrld) = spelling_of "Psrld" "psrld" "psrld"
@@ -69,12 +74,16 @@ spelling (op.XShift xshift.Psrldq) = spelling_of "Psrldq" "psrldq" "psrldq"
 spelling op.XIns = spelling_of "Pinsrq" "pinsrq" "pinsrq"
 spelling op.XExt = spelling_of "Pextrq" "pextrq" "pextrq"
 spelling op.XMovq = spelling_of "Movq" "movq" "movq"
+spelling op.XClmul = spelling_of "Pclmulqdq" "pclmulqdq" "pclmulqdq"
 
 -- every instruction
 unfoldable pub operations : List Operation
 operations =
     op.Mov
     ∷ op.Store
+    ∷ op.Load1
+    ∷ op.Load4
+    ∷ op.Store4
     ∷ op.Lea
     ∷ op.Cmov cond.E
     ∷ op.Cmov cond.Ne
@@ -112,6 +121,8 @@ operations =
     ∷ op.XBin xbin.Paddq
     ∷ op.XBin xbin.Punpcklqdq
     ∷ op.XBin xbin.Punpckhqdq
+    ∷ op.XBin xbin.Aesenc
+    ∷ op.XBin xbin.Aesenclast
     ∷ op.XShuf
     ∷ op.XShift xshift.Pslld
     ∷ op.XShift xshift.Psrld
@@ -120,6 +131,7 @@ operations =
     ∷ op.XIns
     ∷ op.XExt
     ∷ op.XMovq
+    ∷ op.XClmul
     ∷ []
 
 abbrev pub operation_name : Operation → List ℕ

@@ -6,8 +6,10 @@ use Rattle.x64_syntax.specs.declared.places.Xmm.{Xmm as XmmReg}
 use Rattle.x64_syntax.specs.declared.places.Xmm.TheVariants.{Xmm0, Xmm1, Xmm2, Xmm3, Xmm4, Xmm5, Xmm6, Xmm7, Xmm8, Xmm9, Xmm10, Xmm11, Xmm12, Xmm13, Xmm14, Xmm15}
 use Rattle.x64_syntax.specs.declared.places.FlagName.{FlagName}
 use Rattle.x64_syntax.specs.declared.places.FlagName.TheVariants.{Cf, Zf, Sf, Of}
+use Rattle.x64_syntax.specs.declared.places.MachinePlace.{MachinePlace}
+use Rattle.x64_syntax.specs.declared.places.MachinePlace.TheVariants.{Reg, Xmm, Flag}
 use Rattle.x64_syntax.specs.declared.places.Place.{Place}
-use Rattle.x64_syntax.specs.declared.places.Place.TheVariants.{Reg, Xmm, Flag}
+use Rattle.x64_syntax.specs.declared.places.Place.TheVariants as place
 use Rattle.x64_syntax.specs.Names.{first_of_name}
 
 abbrev pub reg_name : GeneralReg → List ℕ
@@ -27,6 +29,25 @@ reg_name R12 = codes "r12"
 reg_name R13 = codes "r13"
 reg_name R14 = codes "r14"
 reg_name R15 = codes "r15"
+
+-- the name of its lower half, of 32 bits
+abbrev pub low_name : GeneralReg → List ℕ
+low_name Rax = codes "eax"
+low_name Rbx = codes "ebx"
+low_name Rcx = codes "ecx"
+low_name Rdx = codes "edx"
+low_name Rsi = codes "esi"
+low_name Rdi = codes "edi"
+low_name Rbp = codes "ebp"
+low_name Rsp = codes "esp"
+low_name R8 = codes "r8d"
+low_name R9 = codes "r9d"
+low_name R10 = codes "r10d"
+low_name R11 = codes "r11d"
+low_name R12 = codes "r12d"
+low_name R13 = codes "r13d"
+low_name R14 = codes "r14d"
+low_name R15 = codes "r15d"
 
 abbrev pub xmm_name : XmmReg → List ℕ
 xmm_name Xmm0 = codes "xmm0"
@@ -52,10 +73,16 @@ flag_name Zf = codes "zf"
 flag_name Sf = codes "sf"
 flag_name Of = codes "of"
 
-abbrev pub place_name : Place → List ℕ
+abbrev pub place_name : MachinePlace → List ℕ
 place_name (Reg r) = reg_name r
 place_name (Xmm x) = xmm_name x
 place_name (Flag f) = flag_name f
+
+-- a place of the machine among all places
+abbrev pub of_machine : MachinePlace → Place
+of_machine (Reg r) = place.Reg r
+of_machine (Xmm x) = place.Xmm x
+of_machine (Flag f) = place.Flag f
 
 abbrev pub reg_number : GeneralReg → ℕ
 reg_number Rax = 0
@@ -109,7 +136,7 @@ xmm_eq a b = xmm_number a == xmm_number b
 abbrev pub flag_eq : FlagName → FlagName → Bool
 flag_eq a b = flag_number a == flag_number b
 
-abbrev pub place_eq : Place → Place → Bool
+abbrev pub place_eq : MachinePlace → MachinePlace → Bool
 place_eq (Reg a) (Reg b) = reg_eq a b
 place_eq (Xmm a) (Xmm b) = xmm_eq a b
 place_eq (Flag a) (Flag b) = flag_eq a b
@@ -129,6 +156,9 @@ all_flags = Cf ∷ Zf ∷ Sf ∷ Of ∷ []
 -- the one of a name
 abbrev pub reg_of : List ℕ → Option GeneralReg
 reg_of name = first_of_name reg_name all_regs name
+
+abbrev pub low_of : List ℕ → Option GeneralReg
+low_of name = first_of_name low_name all_regs name
 
 abbrev pub xmm_of : List ℕ → Option XmmReg
 xmm_of name = first_of_name xmm_name all_xmms name

@@ -85,8 +85,14 @@ built_in =
     ∷ (codes "psrld", call.Psrld)
     ∷ (codes "pslldq", call.Pslldq)
     ∷ (codes "psrldq", call.Psrldq)
+    ∷ (codes "aesenc", call.Aesenc)
+    ∷ (codes "aesenclast", call.Aesenclast)
+    ∷ (codes "clmul", call.Clmul)
     ∷ (codes "len", call.Len)
     ∷ (codes "put", call.Put)
+    ∷ (codes "byteat", call.ByteAt)
+    ∷ (codes "dwordat", call.DwordAt)
+    ∷ (codes "putdword", call.PutDword)
     ∷ (codes "forall", call.ForAll)
     ∷ (codes "old", call.Old)
     ∷ (codes "defined", call.Defined)
@@ -112,5 +118,6 @@ assembler_words =
     ∷ codes "macro" ∷ codes "endm" ∷ codes "equ" ∷ codes "dup" ∷ codes "db" ∷ codes "dw" ∷ codes "dd" ∷ codes "dq"
     ∷ codes "mod" ∷ codes "eq" ∷ codes "ne" ∷ codes "lt" ∷ codes "le" ∷ codes "gt" ∷ codes "ge" ∷ codes "high"
     ∷ codes "low" ∷ codes "type" ∷ codes "this" ∷ codes "length" ∷ codes "size" ∷ codes "name" ∷ codes "title" ∷ codes "page"
-    ∷ codes "org" ∷ codes "while" ∷ codes "for" ∷ codes "repeat" ∷ codes "option"
+    ∷ codes "org" ∷ codes "while" ∷ codes "for" ∷ codes "repeat" ∷ codes "option" ∷ codes "r8d" ∷ codes "r9d" ∷ codes "r10d"
+    ∷ codes "r11d" ∷ codes "r12d" ∷ codes "r13d" ∷ codes "r14d" ∷ codes "r15d"
     ∷ []

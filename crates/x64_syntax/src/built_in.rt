@@ -32,8 +32,14 @@ pub enum BuiltIn {
     Psrld,
     Pslldq,
     Psrldq,
+    Aesenc,
+    Aesenclast,
+    Clmul,
     Len,
     Put,
+    ByteAt,
+    DwordAt,
+    PutDword,
     ForAll,
     Old,
     Defined,
@@ -42,7 +48,7 @@ pub enum BuiltIn {
 }
 
 /// The operators, with how each is written.
-pub const BUILT_IN: [(&str, BuiltIn); 31] = [
+pub const BUILT_IN: [(&str, BuiltIn); 37] = [
     ("div", BuiltIn::Div),
     ("mod", BuiltIn::Mod),
     ("int", BuiltIn::Int),
@@ -67,8 +73,14 @@ pub const BUILT_IN: [(&str, BuiltIn); 31] = [
     ("psrld", BuiltIn::Psrld),
     ("pslldq", BuiltIn::Pslldq),
     ("psrldq", BuiltIn::Psrldq),
+    ("aesenc", BuiltIn::Aesenc),
+    ("aesenclast", BuiltIn::Aesenclast),
+    ("clmul", BuiltIn::Clmul),
     ("len", BuiltIn::Len),
     ("put", BuiltIn::Put),
+    ("byteat", BuiltIn::ByteAt),
+    ("dwordat", BuiltIn::DwordAt),
+    ("putdword", BuiltIn::PutDword),
     ("forall", BuiltIn::ForAll),
     ("old", BuiltIn::Old),
     ("defined", BuiltIn::Defined),

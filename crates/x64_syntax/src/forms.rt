@@ -1,8 +1,8 @@
 // What each instruction takes, reads and writes.
 
 ghost use Rattle.std.specs.Prelude.{◌≡◌, true, ◌||◌, ◌++◌, ◌∷◌, [], map};
-ghost use Rattle.x64_syntax.specs.declared.places.Place.{Place as APlace};
-ghost use Rattle.x64_syntax.specs.declared.places.Place.TheVariants as place;
+ghost use Rattle.x64_syntax.specs.declared.places.MachinePlace.{MachinePlace as APlace};
+ghost use Rattle.x64_syntax.specs.declared.places.MachinePlace.TheVariants as place;
 ghost use Rattle.x64_syntax.specs.Places.{place_eq};
 ghost use Rattle.x64_syntax.specs.PlaceSets.{in_set};
 ghost use Rattle.x64_syntax.specs.Ranges.{is_i32, is_i64, is_u8};
@@ -12,14 +12,15 @@ use crate::conditions::Cond;
 use crate::instructions::{AluOp, Ins, OneOp, ShiftOp};
 use crate::operands::{Mem, Opr};
 use crate::place_set::PlaceSet;
-use crate::places::{FlagName, Place, Reg};
+use crate::places::{FlagName, MachinePlace, Reg};
 
 /// Why an instruction isn't one of the machine's.
 #[derive(Clone, Copy, Debug, PartialEq, Eq, Drop)]
 pub enum FormFault {
     /// A constant is outside what the form takes, or the form takes none.
     Immediate,
-    /// A shift isn't by 1 to 63, or a word of an xmm register is neither 0 nor 1.
+    /// A shift isn't by 1 to 63, a word of an xmm register is neither 0 nor 1, or the number that chooses words of two
+    /// is none of 0, 1, 16 and 17.
     Count,
     /// A scale is none of 1, 2, 4 and 8.
     Scale,
@@ -96,6 +97,7 @@ fn count_fits(ins: &Ins) -> bool
         Ins::Shift { n, .. } => 1 <= *n && *n <= 63,
         Ins::XIns { n, .. } | Ins::XExt { n, .. } => *n <= 1,
         Ins::XShuf { n, .. } | Ins::XShift { n, .. } => is_u8(*n),
+        Ins::XClmul { n, .. } => matches!(*n, 0 | 1 | 16 | 17),
         _ => true,
     }
 }
@@ -120,7 +122,8 @@ pub(crate) fn accesses(ins: &Ins) -> Option<Mem>
         | Ins::Mul { s }
         | Ins::Mulx { s, .. }
         | Ins::Carry { s, .. } => source_memory(s),
-        Ins::Store { m, .. } | Ins::XLoad { m, .. } | Ins::XStore { m, .. } => Some(*m),
+        Ins::Load1 { m, .. } | Ins::Load4 { m, .. } | Ins::XLoad { m, .. } => Some(*m),
+        Ins::Store { m, .. } | Ins::Store4 { m, .. } | Ins::XStore { m, .. } => Some(*m),
         _ => None,
     }
 }
@@ -175,7 +178,7 @@ pub fn ins_ok(ins: &Ins) -> Result<(), FormFault>
     if !has_scale(addresses(ins)) {
         return Err(FormFault::Scale);
     }
-    let rsp = Place::Reg(Reg::Rsp);
+    let rsp = MachinePlace::Reg(Reg::Rsp);
     if reads_of(ins).contains(rsp) || writes_of(ins).contains(rsp) {
         return Err(FormFault::Register);
     }
@@ -191,8 +194,10 @@ fn with_address(set: PlaceSet, m: &Mem) -> PlaceSet
     ensures { (p : APlace) → in_set result p ≡ (is_among (address_places m.now) p || in_set set p) }
 {
     match m.index {
-        Some((index, _)) => set.with(Place::Reg(index)).with(Place::Reg(m.base)),
-        None => set.with(Place::Reg(m.base)),
+        Some((index, _)) => set
+            .with(MachinePlace::Reg(index))
+            .with(MachinePlace::Reg(m.base)),
+        None => set.with(MachinePlace::Reg(m.base)),
     }
 }
 
@@ -201,14 +206,14 @@ fn with_source(set: PlaceSet, s: &Opr) -> PlaceSet
     ensures { (p : APlace) → in_set result p ≡ (is_among (source_places s.now) p || in_set set p) }
 {
     match s {
-        Opr::R(reg) => set.with(Place::Reg(*reg)),
+        Opr::R(reg) => set.with(MachinePlace::Reg(*reg)),
         Opr::Imm(_) => set,
         Opr::M(m) => with_address(set, m),
     }
 }
 
 // The set of one place.
-fn only(place: Place) -> PlaceSet
+fn only(place: MachinePlace) -> PlaceSet
     ensures { (p : APlace) → in_set result p ≡ is_among (place ∷ []) p }
 {
     PlaceSet::EMPTY.with(place)
@@ -217,12 +222,12 @@ fn only(place: Place) -> PlaceSet
 fn cond_flags(c: Cond) -> PlaceSet
     ensures { (p : APlace) → in_set result p ≡ is_among (map place.Flag (cond_flags c)) p }
 {
-    let cf = only(Place::Flag(FlagName::Cf));
-    let zf = only(Place::Flag(FlagName::Zf));
+    let cf = only(MachinePlace::Flag(FlagName::Cf));
+    let zf = only(MachinePlace::Flag(FlagName::Zf));
     match c {
         Cond::E | Cond::Ne => zf,
         Cond::B | Cond::Ae => cf,
-        Cond::Be | Cond::A => zf.with(Place::Flag(FlagName::Cf)),
+        Cond::Be | Cond::A => zf.with(MachinePlace::Flag(FlagName::Cf)),
     }
 }
 
@@ -232,7 +237,7 @@ fn alu_sources(op: AluOp, s: &Opr) -> PlaceSet
 {
     let sources = with_source(PlaceSet::EMPTY, s);
     match op {
-        AluOp::Adc | AluOp::Sbb => sources.with(Place::Flag(FlagName::Cf)),
+        AluOp::Adc | AluOp::Sbb => sources.with(MachinePlace::Flag(FlagName::Cf)),
         _ => sources,
     }
 }
@@ -244,34 +249,44 @@ pub fn reads_of(ins: &Ins) -> PlaceSet
     let none = PlaceSet::EMPTY;
     match ins {
         Ins::Mov { s, .. } => with_source(none, s),
-        Ins::Store { m, s } => with_address(none, m).with(Place::Reg(*s)),
-        Ins::Lea { m, .. } | Ins::XLoad { m, .. } => with_address(none, m),
-        Ins::Cmov { c, d, s } => cond_flags(*c).with(Place::Reg(*d)).with(Place::Reg(*s)),
-        Ins::Push { s } | Ins::XMovq { s, .. } => only(Place::Reg(*s)),
+        Ins::Store { m, s } | Ins::Store4 { m, s } => {
+            with_address(none, m).with(MachinePlace::Reg(*s))
+        }
+        Ins::Lea { m, .. } | Ins::Load1 { m, .. } | Ins::Load4 { m, .. } | Ins::XLoad { m, .. } => {
+            with_address(none, m)
+        }
+        Ins::Cmov { c, d, s } => cond_flags(*c)
+            .with(MachinePlace::Reg(*d))
+            .with(MachinePlace::Reg(*s)),
+        Ins::Push { s } | Ins::XMovq { s, .. } => only(MachinePlace::Reg(*s)),
         Ins::Pop { .. } => none,
-        Ins::Alu { op, d, s } => alu_sources(*op, s).with(Place::Reg(*d)),
-        Ins::One { d, .. } | Ins::Shift { d, .. } => only(Place::Reg(*d)),
-        Ins::Imul { d, s } => with_source(none, s).with(Place::Reg(*d)),
-        Ins::Mul { s } => with_source(none, s).with(Place::Reg(Reg::Rax)),
-        Ins::Mulx { s, .. } => with_source(none, s).with(Place::Reg(Reg::Rdx)),
+        Ins::Alu { op, d, s } => alu_sources(*op, s).with(MachinePlace::Reg(*d)),
+        Ins::One { d, .. } | Ins::Shift { d, .. } => only(MachinePlace::Reg(*d)),
+        Ins::Imul { d, s } => with_source(none, s).with(MachinePlace::Reg(*d)),
+        Ins::Mul { s } => with_source(none, s).with(MachinePlace::Reg(Reg::Rax)),
+        Ins::Mulx { s, .. } => with_source(none, s).with(MachinePlace::Reg(Reg::Rdx)),
         Ins::Carry { op, d, s } => with_source(none, s)
-            .with(Place::Flag(op.flag()))
-            .with(Place::Reg(*d)),
-        Ins::XStore { m, s } => with_address(none, m).with(Place::Xmm(*s)),
-        Ins::XMov { s, .. } | Ins::XShuf { s, .. } | Ins::XExt { s, .. } => only(Place::Xmm(*s)),
-        Ins::XBin { d, s, .. } => only(Place::Xmm(*s)).with(Place::Xmm(*d)),
-        Ins::XShift { d, .. } => only(Place::Xmm(*d)),
-        Ins::XIns { d, s, .. } => only(Place::Reg(*s)).with(Place::Xmm(*d)),
+            .with(MachinePlace::Flag(op.flag()))
+            .with(MachinePlace::Reg(*d)),
+        Ins::XStore { m, s } => with_address(none, m).with(MachinePlace::Xmm(*s)),
+        Ins::XMov { s, .. } | Ins::XShuf { s, .. } | Ins::XExt { s, .. } => {
+            only(MachinePlace::Xmm(*s))
+        }
+        Ins::XBin { d, s, .. } | Ins::XClmul { d, s, .. } => {
+            only(MachinePlace::Xmm(*s)).with(MachinePlace::Xmm(*d))
+        }
+        Ins::XShift { d, .. } => only(MachinePlace::Xmm(*d)),
+        Ins::XIns { d, s, .. } => only(MachinePlace::Reg(*s)).with(MachinePlace::Xmm(*d)),
     }
 }
 
 fn flag_places() -> PlaceSet
     ensures { (p : APlace) → in_set result p ≡ is_among flag_places p }
 {
-    only(Place::Flag(FlagName::Of))
-        .with(Place::Flag(FlagName::Sf))
-        .with(Place::Flag(FlagName::Zf))
-        .with(Place::Flag(FlagName::Cf))
+    only(MachinePlace::Flag(FlagName::Of))
+        .with(MachinePlace::Flag(FlagName::Sf))
+        .with(MachinePlace::Flag(FlagName::Zf))
+        .with(MachinePlace::Flag(FlagName::Cf))
 }
 
 fn alu_writes(op: AluOp, d: Reg) -> PlaceSet
@@ -279,7 +294,7 @@ fn alu_writes(op: AluOp, d: Reg) -> PlaceSet
 {
     match op {
         AluOp::Cmp => flag_places(),
-        _ => flag_places().with(Place::Reg(d)),
+        _ => flag_places().with(MachinePlace::Reg(d)),
     }
 }
 
@@ -287,8 +302,8 @@ fn one_writes(op: OneOp, d: Reg) -> PlaceSet
     ensures { (p : APlace) → in_set result p ≡ is_among (one_writes op d) p }
 {
     match op {
-        OneOp::Neg => flag_places().with(Place::Reg(d)),
-        OneOp::Not => only(Place::Reg(d)),
+        OneOp::Neg => flag_places().with(MachinePlace::Reg(d)),
+        OneOp::Not => only(MachinePlace::Reg(d)),
     }
 }
 
@@ -296,10 +311,10 @@ fn shift_writes(op: ShiftOp, d: Reg) -> PlaceSet
     ensures { (p : APlace) → in_set result p ≡ is_among (shift_writes op d) p }
 {
     match op {
-        ShiftOp::Shl | ShiftOp::Shr => flag_places().with(Place::Reg(d)),
-        ShiftOp::Rol | ShiftOp::Ror => only(Place::Flag(FlagName::Of))
-            .with(Place::Flag(FlagName::Cf))
-            .with(Place::Reg(d)),
+        ShiftOp::Shl | ShiftOp::Shr => flag_places().with(MachinePlace::Reg(d)),
+        ShiftOp::Rol | ShiftOp::Ror => only(MachinePlace::Flag(FlagName::Of))
+            .with(MachinePlace::Flag(FlagName::Cf))
+            .with(MachinePlace::Reg(d)),
     }
 }
 
@@ -308,27 +323,32 @@ pub fn writes_of(ins: &Ins) -> PlaceSet
     ensures { (p : APlace) → in_set result p ≡ is_among (written_places ins.now) p }
 {
     match ins {
-        Ins::Store { .. } | Ins::XStore { .. } | Ins::Push { .. } => PlaceSet::EMPTY,
+        Ins::Store { .. } | Ins::Store4 { .. } | Ins::XStore { .. } | Ins::Push { .. } => {
+            PlaceSet::EMPTY
+        }
         Ins::Mov { d, .. }
+        | Ins::Load1 { d, .. }
+        | Ins::Load4 { d, .. }
         | Ins::Lea { d, .. }
         | Ins::Cmov { d, .. }
         | Ins::Pop { d }
-        | Ins::XExt { d, .. } => only(Place::Reg(*d)),
+        | Ins::XExt { d, .. } => only(MachinePlace::Reg(*d)),
         Ins::Alu { op, d, .. } => alu_writes(*op, *d),
         Ins::One { op, d } => one_writes(*op, *d),
         Ins::Shift { op, d, .. } => shift_writes(*op, *d),
-        Ins::Imul { d, .. } => flag_places().with(Place::Reg(*d)),
+        Ins::Imul { d, .. } => flag_places().with(MachinePlace::Reg(*d)),
         Ins::Mul { .. } => flag_places()
-            .with(Place::Reg(Reg::Rdx))
-            .with(Place::Reg(Reg::Rax)),
-        Ins::Mulx { hi, lo, .. } => only(Place::Reg(*lo)).with(Place::Reg(*hi)),
-        Ins::Carry { op, d, .. } => only(Place::Flag(op.flag())).with(Place::Reg(*d)),
+            .with(MachinePlace::Reg(Reg::Rdx))
+            .with(MachinePlace::Reg(Reg::Rax)),
+        Ins::Mulx { hi, lo, .. } => only(MachinePlace::Reg(*lo)).with(MachinePlace::Reg(*hi)),
+        Ins::Carry { op, d, .. } => only(MachinePlace::Flag(op.flag())).with(MachinePlace::Reg(*d)),
         Ins::XMov { d, .. }
         | Ins::XLoad { d, .. }
         | Ins::XBin { d, .. }
         | Ins::XShuf { d, .. }
         | Ins::XShift { d, .. }
         | Ins::XIns { d, .. }
-        | Ins::XMovq { d, .. } => only(Place::Xmm(*d)),
+        | Ins::XMovq { d, .. }
+        | Ins::XClmul { d, .. } => only(MachinePlace::Xmm(*d)),
     }
 }

@@ -74,6 +74,10 @@ pub enum XBinOp {
     Punpcklqdq,
     /// Joins the upper words.
     Punpckhqdq,
+    /// A round of AES, with the source as the round key.
+    Aesenc,
+    /// The last round of AES.
+    Aesenclast,
 }
 
 /// Shifts of an xmm register: of its four numbers of 32 bits by bits, or of the whole by bytes.
@@ -92,6 +96,12 @@ pub enum Ins {
     Mov { d: Reg, s: Opr },
     /// `Store64(m, s)`: writes a register to memory.
     Store { m: Mem, s: Reg },
+    /// `Movzx8(d, m)`: loads one byte, and clears the rest of the register.
+    Load1 { d: Reg, m: Mem },
+    /// `Mov32(d, m)`: loads 4 bytes, and clears the upper half of the register.
+    Load4 { d: Reg, m: Mem },
+    /// `Store32(m, s)`: writes the lower half of a register to memory.
+    Store4 { m: Mem, s: Reg },
     /// `Lea64(d, ..)`: the address itself.
     Lea { d: Reg, m: Mem },
     /// `Cmove(d, s)` and its kin: copies the source where the condition holds.
@@ -132,4 +142,7 @@ pub enum Ins {
     XExt { d: Reg, s: Xmm, n: u8 },
     /// `Movq(d, s)`: the register as the lower word, and 0 above it.
     XMovq { d: Xmm, s: Reg },
+    /// `Pclmulqdq(d, s, n)`: the product without carries of two words, which bits 0 and 4 of n choose; n is 0, 1, 16
+    /// or 17.
+    XClmul { d: Xmm, s: Xmm, n: u8 },
 }

@@ -6,7 +6,7 @@ ghost use Rattle.x64_syntax.specs.declared.places.Reg.{Reg as AReg};
 ghost use Rattle.x64_syntax.specs.declared.places.Xmm.{Xmm as AnXmm};
 ghost use Rattle.x64_syntax.specs.declared.places.FlagName.{FlagName as AFlag};
 ghost use Rattle.x64_syntax.specs.Operations.{operations, operation_name};
-ghost use Rattle.x64_syntax.specs.Places.{reg_name, xmm_name, flag_name, reg_of, xmm_of, flag_of, all_regs, all_xmms, all_flags};
+ghost use Rattle.x64_syntax.specs.Places.{reg_name, low_name, xmm_name, flag_name, reg_of, low_of, xmm_of, flag_of, all_regs, all_xmms, all_flags};
 ghost use Rattle.x64_syntax.specs.Words.{operation_of};
 
 /// Every register, xmm register, flag and instruction is in the list of these.
@@ -17,9 +17,10 @@ pub fn lists_are_whole()
     ensures operations { (o : AnOperation) → Contains operations o }
 {}
 
-/// No two registers, xmm registers, flags or instructions have one name.
+/// No two registers, lower halves of registers, xmm registers, flags or instructions have one name.
 pub fn names_are_told_apart()
     ensures regs { (r : AReg) → reg_of (reg_name r) ≡ Some r }
+    ensures low { (r : AReg) → low_of (low_name r) ≡ Some r }
     ensures xmms { (x : AnXmm) → xmm_of (xmm_name x) ≡ Some x }
     ensures flags { (f : AFlag) → flag_of (flag_name f) ≡ Some f }
     ensures operations { (o : AnOperation) → operation_of (operation_name o) ≡ Some o }

@@ -2,7 +2,7 @@
 
 ghost use Rattle.std.specs.Prelude.{◌≡◌, List, ℕ, map};
 ghost use Rattle.x64_syntax.specs.Names.{first_of_name, table_value};
-ghost use Rattle.x64_syntax.specs.Places.{reg_of, xmm_of, flag_of};
+ghost use Rattle.x64_syntax.specs.Places.{reg_of, low_of, xmm_of, flag_of};
 
 use crate::places::{FlagName, Reg, Xmm};
 
@@ -97,6 +97,16 @@ pub fn reg_named(name: &[u8]) -> Option<Reg>
     ensures { result ≡ reg_of name.now }
 {
     from_name(name)
+}
+
+/// The general register whose lower half has the name.
+pub fn low_named(name: &[u8]) -> Option<Reg>
+    ensures { result ≡ low_of name.now }
+{
+    Reg::ALL
+        .iter()
+        .copied()
+        .find(|reg| reg.low_name().as_bytes() == name)
 }
 
 /// The xmm register of a name.

@@ -14,6 +14,9 @@ use crate::names::{Named, from_name};
 pub enum Operation {
     Mov,
     Store,
+    Load1,
+    Load4,
+    Store4,
     Lea,
     Cmov(Cond),
     Push,
@@ -32,6 +35,7 @@ pub enum Operation {
     XIns,
     XExt,
     XMovq,
+    XClmul,
 }
 
 /// How an instruction is written: its name in a source, and its mnemonics in GAS and in MASM syntax.
@@ -52,9 +56,12 @@ const fn written(name: &'static str, gas: &'static str, masm: &'static str) -> S
 
 impl Operation {
     /// Every instruction.
-    pub const ALL: [Operation; 47] = [
+    pub const ALL: [Operation; 53] = [
         Operation::Mov,
         Operation::Store,
+        Operation::Load1,
+        Operation::Load4,
+        Operation::Store4,
         Operation::Lea,
         Operation::Cmov(Cond::E),
         Operation::Cmov(Cond::Ne),
@@ -92,6 +99,8 @@ impl Operation {
         Operation::XBin(XBinOp::Paddq),
         Operation::XBin(XBinOp::Punpcklqdq),
         Operation::XBin(XBinOp::Punpckhqdq),
+        Operation::XBin(XBinOp::Aesenc),
+        Operation::XBin(XBinOp::Aesenclast),
         Operation::XShuf,
         Operation::XShift(XShiftOp::Pslld),
         Operation::XShift(XShiftOp::Psrld),
@@ -100,6 +109,7 @@ impl Operation {
         Operation::XIns,
         Operation::XExt,
         Operation::XMovq,
+        Operation::XClmul,
     ];
 
     /// How it is written. GAS has a further mnemonic for a move of a constant.
@@ -112,6 +122,9 @@ impl Operation {
         match self {
             Operation::Mov => written("Mov64", "movq", "mov"),
             Operation::Store => written("Store64", "movq", "mov"),
+            Operation::Load1 => written("Movzx8", "movzbq", "movzx"),
+            Operation::Load4 => written("Mov32", "movl", "mov"),
+            Operation::Store4 => written("Store32", "movl", "mov"),
             Operation::Lea => written("Lea64", "leaq", "lea"),
             Operation::Cmov(Cond::E) => written("Cmove", "cmove", "cmove"),
             Operation::Cmov(Cond::Ne) => written("Cmovne", "cmovne", "cmovne"),
@@ -157,6 +170,12 @@ impl Operation {
                 "punpckhqdq",
                 "punpckhqdq",
             ),
+            Operation::XBin(XBinOp::Aesenc) => written("Aesenc", "aesenc", "aesenc"),
+            Operation::XBin(XBinOp::Aesenclast) => written(
+                "Aesenclast",
+                "aesenclast",
+                "aesenclast",
+            ),
             Operation::XShuf => written("Pshufd", "pshufd", "pshufd"),
             Operation::XShift(XShiftOp::Pslld) => written("Pslld", "pslld", "pslld"),
             Operation::XShift(XShiftOp::Psrld) => written("Psrld", "psrld", "psrld"),
@@ -165,6 +184,7 @@ impl Operation {
             Operation::XIns => written("Pinsrq", "pinsrq", "pinsrq"),
             Operation::XExt => written("Pextrq", "pextrq", "pextrq"),
             Operation::XMovq => written("Movq", "movq", "movq"),
+            Operation::XClmul => written("Pclmulqdq", "pclmulqdq", "pclmulqdq"),
         }
     }
 

@@ -1,11 +1,11 @@
 // Sets of places.
 
 ghost use Rattle.std.specs.Prelude.{◌≡◌, ◌<◌, ◌||◌, false};
-ghost use Rattle.x64_syntax.specs.declared.places.Place.{Place as APlace};
+ghost use Rattle.x64_syntax.specs.declared.places.MachinePlace.{MachinePlace as APlace};
 ghost use Rattle.x64_syntax.specs.Places.{place_eq};
 ghost use Rattle.x64_syntax.specs.PlaceSets.{has_bit, in_set};
 
-use crate::places::Place;
+use crate::places::MachinePlace;
 
 /// A set of registers, xmm registers and flags. Bit k stands for the one of number k.
 #[derive(Clone, Copy, Debug, PartialEq, Eq)]
@@ -25,26 +25,26 @@ impl PlaceSet {
 
     /// Whether a place is in the set.
     #[tactic(auto, using(crate::proofs::PlaceLemmas::reg_number_lt, crate::proofs::PlaceLemmas::xmm_number_lt, crate::proofs::PlaceLemmas::flag_number_lt))]
-    pub fn contains(self, place: Place) -> bool
+    pub fn contains(self, place: MachinePlace) -> bool
         ensures { result ≡ in_set self place }
     {
         match place {
-            Place::Reg(reg) => has_bit(self.regs, reg.number()),
-            Place::Xmm(xmm) => has_bit(self.xmms, xmm.number()),
-            Place::Flag(flag) => has_bit(u16::from(self.flags), flag.number()),
+            MachinePlace::Reg(reg) => has_bit(self.regs, reg.number()),
+            MachinePlace::Xmm(xmm) => has_bit(self.xmms, xmm.number()),
+            MachinePlace::Flag(flag) => has_bit(u16::from(self.flags), flag.number()),
         }
     }
 
     /// The set with one more place.
     #[tactic(auto, using(crate::proofs::PlaceLemmas::reg_number_lt, crate::proofs::PlaceLemmas::xmm_number_lt, crate::proofs::PlaceLemmas::flag_number_lt))]
-    pub fn with(self, place: Place) -> PlaceSet
+    pub fn with(self, place: MachinePlace) -> PlaceSet
         ensures { (p : APlace) → in_set result p ≡ (place_eq p place || in_set self p) }
     {
         let mut set = self;
         match place {
-            Place::Reg(reg) => set.regs |= 1 << reg.number(),
-            Place::Xmm(xmm) => set.xmms |= 1 << xmm.number(),
-            Place::Flag(flag) => set.flags |= 1 << flag.number(),
+            MachinePlace::Reg(reg) => set.regs |= 1 << reg.number(),
+            MachinePlace::Xmm(xmm) => set.xmms |= 1 << xmm.number(),
+            MachinePlace::Flag(flag) => set.flags |= 1 << flag.number(),
         }
         set
     }

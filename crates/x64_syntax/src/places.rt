@@ -1,7 +1,7 @@
 // What holds a value: general registers, xmm registers and flags.
 
 ghost use Rattle.std.specs.Prelude.{◌≡◌};
-ghost use Rattle.x64_syntax.specs.Places.{reg_name, xmm_name, flag_name, place_name, reg_number, xmm_number, flag_number};
+ghost use Rattle.x64_syntax.specs.Places.{reg_name, low_name, xmm_name, flag_name, place_name, reg_number, xmm_number, flag_number};
 
 /// A general register of 64 bits. Wherever registers go by number, it is this order.
 #[derive(Clone, Copy, Debug, PartialEq, Eq)]
@@ -54,12 +54,37 @@ pub enum FlagName {
     Of,
 }
 
-/// What an instruction reads or writes.
+/// What an instruction reads or writes in the machine, memory aside.
+#[derive(Clone, Copy, Debug, PartialEq, Eq)]
+pub enum MachinePlace {
+    Reg(Reg),
+    Xmm(Xmm),
+    Flag(FlagName),
+}
+
+/// What code reads or writes: a place of the machine, a block of memory, or a slot that was pushed, by their numbers.
 #[derive(Clone, Copy, Debug, PartialEq, Eq)]
 pub enum Place {
     Reg(Reg),
     Xmm(Xmm),
     Flag(FlagName),
+    Block(u32),
+    Slot(u32),
+}
+
+impl From<MachinePlace> for Place {
+    ghost use Rattle.std.specs.Prelude.{◌≡◌};
+    ghost use Rattle.x64_syntax.specs.Places.{of_machine};
+
+    ghost from_gives = { λ m p. p ≡ of_machine m };
+
+    fn from(place: MachinePlace) -> Self {
+        match place {
+            MachinePlace::Reg(reg) => Place::Reg(reg),
+            MachinePlace::Xmm(xmm) => Place::Xmm(xmm),
+            MachinePlace::Flag(flag) => Place::Flag(flag),
+        }
+    }
 }
 
 impl Reg {
@@ -104,6 +129,30 @@ impl Reg {
             Reg::R13 => "r13",
             Reg::R14 => "r14",
             Reg::R15 => "r15",
+        }
+    }
+
+    /// The name of its lower half, of 32 bits, as `eax`.
+    pub fn low_name(self) -> &'static str
+        ensures { result.now ≡ low_name self }
+    {
+        match self {
+            Reg::Rax => "eax",
+            Reg::Rbx => "ebx",
+            Reg::Rcx => "ecx",
+            Reg::Rdx => "edx",
+            Reg::Rsi => "esi",
+            Reg::Rdi => "edi",
+            Reg::Rbp => "ebp",
+            Reg::Rsp => "esp",
+            Reg::R8 => "r8d",
+            Reg::R9 => "r9d",
+            Reg::R10 => "r10d",
+            Reg::R11 => "r11d",
+            Reg::R12 => "r12d",
+            Reg::R13 => "r13d",
+            Reg::R14 => "r14d",
+            Reg::R15 => "r15d",
         }
     }
 
@@ -192,15 +241,15 @@ impl FlagName {
     }
 }
 
-impl Place {
+impl MachinePlace {
     /// The name in a source.
     pub fn name(self) -> &'static str
         ensures { result.now ≡ place_name self }
     {
         match self {
-            Place::Reg(reg) => reg.name(),
-            Place::Xmm(xmm) => xmm.name(),
-            Place::Flag(flag) => flag.name(),
+            MachinePlace::Reg(reg) => reg.name(),
+            MachinePlace::Xmm(xmm) => xmm.name(),
+            MachinePlace::Flag(flag) => flag.name(),
         }
     }
 }

@@ -7,6 +7,7 @@ ghost use Rattle.x64_syntax.specs.inner.Digits.{digits_from, number_of};
 use crate::words::is_digit;
 use itoa::{Buffer, Integer};
 use std::alloc::{AllocError as NoMemory, Global};
+use std::hash::{Hash, Hasher};
 use std::marker::Model;
 
 /// A text, which contracts see as the list of its bytes.
@@ -106,4 +107,18 @@ impl Eq for Text {
     ghost use Rattle.std.specs.Cmp.Rules.{comparing};
 
     ghost laws = { Prim.search (comparing, rules) };
+}
+
+impl Hash for Text {
+    ghost use Rattle.std.proofs.Common.{rules};
+    ghost use Rattle.std.specs.Hash as fed;
+    ghost use Rattle.std.specs.Cmp.Rules.{hashing};
+
+    ghost hash_input = { λ t. fed.slice fed.u8 t };
+
+    ghost respects_eq = { Prim.search (hashing, rules) };
+
+    fn hash<H: Hasher>(&self, state: &mut H) {
+        self.as_bytes().hash(state);
+    }
 }

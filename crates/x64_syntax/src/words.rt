@@ -27,13 +27,14 @@ pub(crate) const OTHER_MNEMONICS: [&str; 9] = [
 ];
 
 /// Further words that an assembler may read otherwise.
-pub(crate) const ASSEMBLER_WORDS: [&str; 69] = [
+pub(crate) const ASSEMBLER_WORDS: [&str; 77] = [
     "al", "ah", "ax", "eax", "bl", "bh", "bx", "ebx", "cl", "ch", "cx", "ecx", "dl", "dh", "dx",
     "edx", "si", "esi", "di", "edi", "bp", "ebp", "sp", "esp", "byte", "word", "dword", "qword",
     "xmmword", "ptr", "offset", "proc", "endp", "end", "public", "extern", "include", "segment",
     "ends", "assume", "macro", "endm", "equ", "dup", "db", "dw", "dd", "dq", "mod", "eq", "ne",
     "lt", "le", "gt", "ge", "high", "low", "type", "this", "length", "size", "name", "title",
-    "page", "org", "while", "for", "repeat", "option",
+    "page", "org", "while", "for", "repeat", "option", "r8d", "r9d", "r10d", "r11d", "r12d",
+    "r13d", "r14d", "r15d",
 ];
 
 /// The longest export name.

@@ -8,12 +8,12 @@ use Rattle.x64_syntax.specs.declared.items.Item.{Item}
 use Rattle.x64_syntax.specs.declared.items.Item.TheVariants as item
 use Rattle.x64_syntax.specs.declared.operations.Operation.{Operation}
 use Rattle.x64_syntax.specs.declared.operations.Operation.TheVariants as op
-use Rattle.x64_syntax.specs.Places.{reg_of, xmm_of}
+use Rattle.x64_syntax.specs.Places.{reg_of, low_of, xmm_of}
 use Rattle.x64_syntax.specs.Ranges.{is_i32}
 use Rattle.x64_syntax.specs.inner.Digits.{number_of}
 use Rattle.x64_syntax.specs.inner.Mnemonics.{gas_operation_of}
 use Rattle.asm_lines.specs.declared.forms.Part.{Part}
-use Rattle.asm_lines.specs.declared.forms.Part.TheVariants.{General, Wide, Number, Memory}
+use Rattle.asm_lines.specs.declared.forms.Part.TheVariants.{General, Low, Wide, Number, Memory}
 use Rattle.asm_lines.specs.declared.forms.Parts.{Parts}
 use Rattle.asm_lines.specs.declared.forms.Parts.TheVariants.{One, Two, Three}
 use Rattle.asm_lines.specs.inner.Assembled.{instruction, at_most}
@@ -61,9 +61,13 @@ abbrev pub memory : List ℕ → Option Mem
 memory text =
     option_and_then (λ p. option_and_then (λ q. option_and_then (λ z. address_of z q.0 (sides_of 44 q.0)) (option_and_then displacement (number p.0))) (sides_of 41 p.1)) (sides_of 40 text)
 
+abbrev pub narrow_part : Option Reg → List ℕ → Option Part
+narrow_part (Some r) name = Some (Low r)
+narrow_part None name = option_map Wide (xmm_of name)
+
 abbrev pub register_part : Option Reg → List ℕ → Option Part
 register_part (Some r) name = Some (General r)
-register_part None name = option_map Wide (xmm_of name)
+register_part None name = narrow_part (low_of name) name
 
 -- the operand that a text begins with
 abbrev pub part_of : List ℕ → Option Part
@@ -86,10 +90,11 @@ parts_behind a (Some p) = option_and_then (λ b. more_parts a b (sides_of 32 p.1
 abbrev pub parts_of : List ℕ → Option Parts
 parts_of text = option_and_then (λ a. parts_behind a (sides_of 32 text)) (part_of text)
 
--- three instructions are called `movq`: they differ in what is written
+-- three instructions are called `movq` and two `movl`: they differ in what is written
 abbrev pub operation_by_operands : Operation → Parts → Operation
 operation_by_operands op.Mov (Two (Memory m) s) = op.Store
 operation_by_operands op.Mov (Two (Wide d) s) = op.XMovq
+operation_by_operands op.Load4 (Two (Memory m) s) = op.Store4
 operation_by_operands o ps = o
 
 abbrev pub mnemonic_operation : List ℕ → Option Operation

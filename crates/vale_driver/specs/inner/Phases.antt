@@ -75,7 +75,6 @@ cause_view (some_cause.NoCertificate file) = cause.NoCertificate file.now
 cause_view (some_cause.NoStep file name) = cause.NoStep file.now name.now
 cause_view (some_cause.NoLine file line) = cause.NoLine file.now line
 cause_view (some_cause.NoLabel file line) = cause.NoLabel file.now line
-cause_view (some_cause.WideInstruction file line) = cause.WideInstruction file.now line
 cause_view (some_cause.NoSetting file line) = cause.NoSetting file.now line
 cause_view (some_cause.NoEntry file entry) = cause.NoEntry file.now entry.now
 

@@ -2,7 +2,7 @@
 use Rattle.std.specs.Prelude.{◌≡◌, ℕ, ◌+◌, ◌^◌, ◌<◌, ◌≤◌, ◌⊎◌, nat_lt, ◌&&◌, Bool, true, false, not, bytes_eq, codes, List, [], ◌∷◌, ◌++◌, length, get_or, ◌≢◌, map, Option, Some, None, Vec}
 use Rattle.std.specs.List.{list_all, list_any}
 use Rattle.std.specs.declared.alloc.Global.{Global}
-use Rattle.x64_syntax.specs.declared.places.Place.{Place}
+use Rattle.x64_syntax.specs.declared.places.MachinePlace.{MachinePlace}
 use Rattle.x64_syntax.specs.PlaceSets.{in_set}
 use Rattle.x64_blocks.specs.Memory.{Range, meets}
 use Rattle.x64_meaning.specs.State.{State}
@@ -10,9 +10,9 @@ use Rattle.x64_evaluator.specs.declared.state.StateReader.{StateReader}
 use Rattle.x64_evaluator.specs.StateFile.{lines_of, Setting, Value, Block, value_text, range_text, setting_text, limit, are_bytes, clashes, may_follow, may_stand, with_setting, with_settings, fresh}
 
 -- The text is that of a value that fits, and of no other, or of none.
-abbrev pub IsValue : List ℕ → Option (Place × ℕ) → Type 0
-IsValue text (Some v) = (value_text v.0 v.1 ≡ text) × (v.1 < limit v.0) × ((p : Place) (n : ℕ) → n < limit p → value_text p n ≡ text → (v.0 ≡ p) × (v.1 ≡ n))
-IsValue text None = (p : Place) (n : ℕ) → n < limit p → value_text p n ≡ text → ⊥
+abbrev pub IsValue : List ℕ → Option (MachinePlace × ℕ) → Type 0
+IsValue text (Some v) = (value_text v.0 v.1 ≡ text) × (v.1 < limit v.0) × ((p : MachinePlace) (n : ℕ) → n < limit p → value_text p n ≡ text → (v.0 ≡ p) × (v.1 ≡ n))
+IsValue text None = (p : MachinePlace) (n : ℕ) → n < limit p → value_text p n ≡ text → ⊥
 
 -- and so with a block
 abbrev pub range_seen : ℕ × Vec ℕ Global → Range
@@ -28,7 +28,7 @@ Adds s b true new = (b.base + length b.bytes ≤ 2 ^ 64) × (list_any (meets b) 
 Adds s b false new = (2 ^ 64 < b.base + length b.bytes) ⊎ (list_any (meets b) s.blocks ≡ true)
 
 -- a value of the place is set
-abbrev pub sets : Place → Setting → Bool
+abbrev pub sets : MachinePlace → Setting → Bool
 sets p s = clashes (Value p 0) s
 
 -- a byte of a word: neither a blank nor beyond ASCII
@@ -48,7 +48,7 @@ Blankless word = (k : ℕ) → k < length word → get_or word k 0 ≢ 32
 -- the reader holds what these set
 pub record Holds (ss : List Setting) (r : StateReader) : Type 0 where
   pub machine : r.machine ≡ with_settings fresh ss
-  pub places : (p : Place) → in_set r.set p ≡ list_any (sets p) ss
+  pub places : (p : MachinePlace) → in_set r.set p ≡ list_any (sets p) ss
 
 -- one setting more, or none that may follow
 abbrev pub Takes : List Setting → (Setting → Type 0) → Bool → StateReader → Type 0

@@ -1,5 +1,5 @@
 -- What one step of the machine that runs leaves: in plain numbers, and against what the instruction does.
-use Rattle.std.specs.Prelude.{◌≡◌, ℕ, ◌<◌, length, if◌then◌else◌, ◌+◌, ◌-◌, ◌*◌, ◌/◌, ◌%◌, ◌^◌, Bool, true, false, not, ◌&&◌, ◌||◌, nat_le, ◌==◌, List, [], ◌∷◌, Option, Some, None, Result, Ok, Err, bit_and, bit_or, bit_xor, slice_set}
+use Rattle.std.specs.Prelude.{◌≡◌, ℕ, zero, ◌<◌, length, if◌then◌else◌, ◌+◌, ◌-◌, ◌*◌, ◌/◌, ◌%◌, ◌^◌, Bool, true, false, not, ◌&&◌, ◌||◌, nat_le, ◌==◌, List, [], ◌∷◌, Option, Some, None, Result, Ok, Err, bit_and, bit_or, bit_xor, slice_index, slice_set}
 use Rattle.x64_syntax.specs.declared.places.Reg.{Reg as GeneralReg}
 use Rattle.x64_syntax.specs.declared.places.Reg.TheVariants.{Rax, Rdx, Rsp}
 use Rattle.x64_syntax.specs.declared.places.FlagName.{FlagName}
@@ -16,12 +16,20 @@ use Rattle.x64_syntax.specs.declared.instructions.OneOp.TheVariants as one
 use Rattle.x64_syntax.specs.declared.instructions.ShiftOp.{ShiftOp}
 use Rattle.x64_syntax.specs.declared.instructions.ShiftOp.TheVariants as shift
 use Rattle.x64_syntax.specs.declared.instructions.Ins.{Ins}
-use Rattle.x64_syntax.specs.declared.instructions.Ins.TheVariants.{Mov, Lea, Cmov, Pop, Alu, One as OneIns, Shift, Imul, Mul, Mulx, Carry}
+use Rattle.x64_syntax.specs.declared.instructions.XBinOp.{XBinOp}
+use Rattle.x64_syntax.specs.declared.instructions.XBinOp.TheVariants as xbin
+use Rattle.x64_syntax.specs.declared.instructions.XShiftOp.{XShiftOp}
+use Rattle.x64_syntax.specs.declared.instructions.XShiftOp.TheVariants as xshift
+use Rattle.x64_syntax.specs.declared.instructions.Ins.TheVariants.{Mov, Load1, Load4, Lea, Cmov, Pop, Alu, One as OneIns, Shift, Imul, Mul, Mulx, Carry, XMov, XBin, XShuf, XShift, XIns, XExt, XMovq, XClmul}
 use Rattle.x64_syntax.specs.Instructions.{carry_flag}
+use Rattle.x64_blocks.specs.declared.blocks.Outside.{Outside as NotHeld}
 use Rattle.x64_blocks.specs.Memory.{Range}
-use Rattle.x64_syntax.specs.Places.{reg_number, flag_number}
+use Rattle.x64_syntax.specs.declared.places.Xmm.{Xmm as XmmReg}
+use Rattle.x64_syntax.specs.Places.{reg_number, xmm_number, flag_number}
+use Rattle.aes_words.specs.Rounds as aes
 use Rattle.word_ops.specs.Words as words
-use Rattle.term_core.specs.Value.{T, word_of}
+use Rattle.word_ops.specs.Words128 as wide
+use Rattle.term_core.specs.Value.{T, T128, word_of}
 use Rattle.x64_meaning.specs.declared.machine.Flag.{Flag}
 use Rattle.x64_meaning.specs.declared.machine.Flag.TheVariants.{Zero, One, Undefined}
 use Rattle.x64_meaning.specs.declared.machine.Obs.{Obs}
@@ -178,15 +186,67 @@ carry_state f s d b =
     let c = is_one (flag s f) in
     set_flag f (flag_if (words.carries a b c)) (set_reg d (words.sum a b c) s)
 
--- a source's word and the access that it took, or why there is none
-abbrev pub load_result : ℕ → Option ℕ → Result (ℕ × Option Obs) Fault
-load_result a None = Err (Outside a)
-load_result a (Some n) = Ok (n, Some (Access a 8 false))
+-- an xmm register
+abbrev pub xmm : State → XmmReg → ℕ
+xmm s x = slice_index s.xmms (xmm_number x)
+
+abbrev pub set_xmm : XmmReg → ℕ → State → State
+set_xmm d n s = record s { xmms = slice_set s.xmms (xmm_number d) n }
+
+-- the sums of the words
+abbrev pub sums : ℕ → ℕ → ℕ
+sums a s = wide.pair ((wide.high a + wide.high s) % T) ((wide.low a + wide.low s) % T)
+
+-- what instructions compute of words of 128 bits
+abbrev pub combined : XBinOp → ℕ → ℕ → ℕ
+combined xbin.Pxor a s = bit_xor a s
+combined xbin.Pand a s = bit_and a s
+combined xbin.Por a s = bit_or a s
+combined xbin.Paddd a s = wide.paddd a s % T128
+combined xbin.Pshufb a s = wide.pshufb a s % T128
+combined xbin.Paddq a s = sums a s
+combined xbin.Punpcklqdq a s = wide.pair (wide.low s) (wide.low a)
+combined xbin.Punpckhqdq a s = wide.pair (wide.high s) (wide.high a)
+combined xbin.Aesenc a s = aes.aesenc a s % T128
+combined xbin.Aesenclast a s = aes.aesenclast a s % T128
+
+abbrev pub shifted : XShiftOp → ℕ → ℕ → ℕ
+shifted xshift.Pslld a n = wide.pslld a n % T128
+shifted xshift.Psrld a n = wide.psrld a n % T128
+shifted xshift.Pslldq a n = wide.pslldq a n % T128
+shifted xshift.Psrldq a n = wide.psrldq a n % T128
+
+-- a word put into one of the halves, and one of them taken
+abbrev pub inserted : ℕ → ℕ → ℕ → ℕ
+inserted zero a s = wide.pair (wide.high a) s
+inserted _ a s = wide.pair s (wide.low a)
+
+abbrev pub extracted : ℕ → ℕ → ℕ
+extracted zero s = wide.low s
+extracted _ s = wide.high s
+
+-- a number that is loaded and its access, or why there is none
+abbrev pub load_result : ℕ → ℕ → Option ℕ → Result (ℕ × Option Obs) Fault
+load_result a size None = Err (Outside a)
+load_result a size (Some n) = Ok (n, Some (Access a size false))
+
+abbrev pub found_result : ℕ → ℕ → Result ℕ NotHeld → Result (ℕ × Option Obs) Fault
+found_result a size (Ok n) = Ok (n, Some (Access a size false))
+found_result a size (Err e) = Err (Outside a)
+
+abbrev pub stored_result : ℕ → ℕ → Result (Unit {0}) NotHeld → Result (Option Obs) Fault
+stored_result a size (Ok u) = Ok (Some (Access a size true))
+stored_result a size (Err e) = Err (Outside a)
+
+-- what an access would show, by whether a block holds its bytes
+abbrev pub would_result : Bool → ℕ → ℕ → Bool → Result (Option Obs) Fault
+would_result true a size write = Ok (Some (Access a size write))
+would_result false a size write = Err (Outside a)
 
 abbrev pub source_word : State → Opr → Result (ℕ × Option Obs) Fault
 source_word s (R r) = Ok (reg s r, None)
 source_word s (Imm z) = Ok (word_of z, None)
-source_word s (M m) = load_result (address s m) (load s (address s m) 8)
+source_word s (M m) = load_result (address s m) 8 (load s (address s m) 8)
 
 -- the source of an instruction that has one
 abbrev pub operand_of : Ins → Option Opr
@@ -204,12 +264,28 @@ input_from s (Some o) = source_word s o
 
 -- the word that an instruction takes in, and the access that this needs
 abbrev pub input_word : State → Ins → Result (ℕ × Option Obs) Fault
-input_word s (Pop d) = load_result (reg s Rsp) (load s (reg s Rsp) 8)
+input_word s (Pop d) = load_result (reg s Rsp) 8 (load s (reg s Rsp) 8)
+input_word s (Load1 d m) = load_result (address s m) 1 (load s (address s m) 1)
+input_word s (Load4 d m) = load_result (address s m) 4 (load s (address s m) 4)
 input_word s i = input_from s (operand_of i)
+
+-- what an instruction on xmm registers leaves, memory aside
+abbrev pub wide_effect : Ins → State → State
+wide_effect (XMov d x) s = set_xmm d (xmm s x) s
+wide_effect (XBin op d x) s = set_xmm d (combined op (xmm s d) (xmm s x)) s
+wide_effect (XShuf d x n) s = set_xmm d (wide.pshufd (xmm s x) n % T128) s
+wide_effect (XShift op d n) s = set_xmm d (shifted op (xmm s d) n) s
+wide_effect (XIns d r n) s = set_xmm d (inserted n (xmm s d) (reg s r)) s
+wide_effect (XExt d x n) s = set_reg d (extracted n (xmm s x)) s
+wide_effect (XMovq d r) s = set_xmm d (wide.pair 0 (reg s r)) s
+wide_effect (XClmul d x n) s = set_xmm d (aes.clmul (xmm s d) (xmm s x) n % T128) s
+wide_effect i s = s
 
 -- what an instruction leaves in registers and flags, by what it took in
 abbrev pub effect : Ins → State → ℕ → State
 effect (Mov d o) s b = set_reg d b s
+effect (Load1 d m) s b = set_reg d b s
+effect (Load4 d m) s b = set_reg d b s
 effect (Lea d m) s b = set_reg d (address s m) s
 effect (Cmov c d r) s b = set_reg d (reg s (if cond_holds c s then r else d)) s
 effect (Pop d) s b = let t = set_reg d b s in set_reg Rsp ((reg t Rsp + 8) % T) t
@@ -220,24 +296,30 @@ effect (Imul d o) s b = product_state s d b
 effect (Mul o) s b = wide_product s b
 effect (Mulx high low o) s b = halves s high low b
 effect (Carry op d o) s b = carry_state (carry_flag op) s d b
-effect i s b = s
+effect i s b = wide_effect i s
 
--- the registers of a machine are 16 words
+-- the registers of a machine are 16 words, and the xmm registers 16 words of 128 bits
 pub record Fits (s : State) : Type 0 where
   pub regs : length s.regs ≡ 16
   pub each : (r : GeneralReg) → reg s r < T
+  pub wide : (x : XmmReg) → xmm s x < T128
 
--- what a store of a word leaves
-abbrev pub Puts : Option (List Range) → ℕ → State → State → Result (Option Obs) Fault → Type 0
-Puts None a old new result = (result ≡ Err (Outside a)) × (new ≡ old)
-Puts (Some bs) a old new result = (result ≡ Ok (Some (Access a 8 true))) × (new ≡ record old { blocks = bs })
+-- what a store of so many bytes leaves
+abbrev pub Puts : Option (List Range) → ℕ → ℕ → State → State → Result (Option Obs) Fault → Type 0
+Puts None a size old new result = (result ≡ Err (Outside a)) × (new ≡ old)
+Puts (Some bs) a size old new result = (result ≡ Ok (Some (Access a size true))) × (new ≡ record old { blocks = bs })
 
 -- what a step would show, or its fault
 abbrev pub Foresees : Outcome → Result (Option Obs) Fault → Type 0
 Foresees (Done s seen) result = result ≡ Ok (last_of seen)
 Foresees (Faulted f) result = result ≡ Err f
 
--- what a store of a word would show, by what it would leave
-abbrev pub WouldPut : Option (List Range) → ℕ → Result (Option Obs) Fault → Type 0
-WouldPut None a result = result ≡ Err (Outside a)
-WouldPut (Some bs) a result = result ≡ Ok (Some (Access a 8 true))
+-- what a load of so many bytes would show, by what it would give
+abbrev pub WouldGet : Option ℕ → ℕ → ℕ → Result (Option Obs) Fault → Type 0
+WouldGet None a size result = result ≡ Err (Outside a)
+WouldGet (Some n) a size result = result ≡ Ok (Some (Access a size false))
+
+-- what a store of so many bytes would show, by what it would leave
+abbrev pub WouldPut : Option (List Range) → ℕ → ℕ → Result (Option Obs) Fault → Type 0
+WouldPut None a size result = result ≡ Err (Outside a)
+WouldPut (Some bs) a size result = result ≡ Ok (Some (Access a size true))

@@ -2,7 +2,7 @@ use Rattle.std.proofs.Common.{[], ◌∷◌, ◌≡◌, ◌++◌, ◌∙◌, ap,
 use Rattle.std.specs.Prelude.{OnOk}
 use Rattle.std.proofs.lemmas.List.{map-append}
 use Rattle.x64_syntax.specs.declared.places.FlagName.TheVariants.{Cf}
-use Rattle.x64_syntax.specs.declared.places.Place.TheVariants.{Reg, Flag}
+use Rattle.x64_syntax.specs.declared.places.MachinePlace.TheVariants.{Reg, Flag}
 use Rattle.term_core.specs.Terms.{tree, trees}
 use Rattle.vale_driver.specs.inner.ConditionTerms.{present_versions}
 use Rattle.vale_driver.proofs.Present.{pushed_move, addition_built}

@@ -1,10 +1,10 @@
 use Rattle.std.proofs.Common.{ap, ◌∙◌, arith}
 use Rattle.std.proofs.lemmas.Result.{err_from_is_err_and}
-use Rattle.x64_evaluator.specs.Evaluated.{are_general, is_entry_at, evaluation, way}
+use Rattle.x64_evaluator.specs.Evaluated.{is_entry_at, evaluation, way}
 use Rattle.x64_evaluator.specs.Report.{report_text}
 use Rattle.vale_driver.specs.inner.Phases.{eval_of}
 use Rattle.vale_driver.proofs.Files.{stops_also}
-use Rattle.vale_driver.proofs.Texts.{refused_before, refused_behind, reported, all_general, entry_there}
+use Rattle.vale_driver.proofs.Texts.{refused_before, refused_behind, reported, entry_there}
 use Rattle.vale_driver.proofs.eval.eval_report.Goals as goal
 
 pub returns-in_err-items-clause-stops : goal.returns-in_err-items-clause-stops
@@ -17,9 +17,6 @@ returns-in_err-machine-clause-stops g c =
     let p = err_from_is_err_and c.from_residual-in_err-machine.result c.from_residual-in_err-machine.ensures.1 in
     let count = c.in_ok-items.ensures.count in
     rw (p.1, p.2) (stops_also _ _ _ _ c.in_err-machine.field-0.0 (λ r k. refused_behind (g.S.Store.tells c.args.store.now) (eval_of c.args.words) _ c.in_ok-items.items.items c.in_ok-items.entry r (c.in_ok-items.ensures.same_files c.args.words.state.now) c.in_ok-items.ensures.begun k) (λ f. omega (arith, f, count)) c.in_err-machine.ensures.stops)
-
-pub run_items-run-requires-clause-general : goal.run_items-run-requires-clause-general
-run_items-run-requires-clause-general g c = ap are_general c.deref.ensures.value ∙ all_general c.in_ok-items.items.items c.in_ok-items.ensures.begun.reads.general
 
 pub run_items-run-requires-clause-entry : goal.run_items-run-requires-clause-entry
 run_items-run-requires-clause-entry g c =

@@ -3,7 +3,7 @@ use Rattle.std.proofs.lemmas.Bool.{ltb-false, ltb-true}
 use Rattle.std.proofs.lemmas.Option.{slice_get_past, slice_get_read}
 use Rattle.x64_syntax.specs.Programs.{is_item}
 use Rattle.x64_meaning.specs.Run.{item_step, follow, Running}
-use Rattle.x64_evaluator.specs.Evaluated.{way, is_general_item}
+use Rattle.x64_evaluator.specs.Evaluated.{way}
 use Rattle.x64_evaluator.specs.inner.Moves.{step_stand}
 use Rattle.x64_evaluator.proofs.Sides.{passes_at}
 use Rattle.x64_evaluator.proofs.run.step.Goals as goal
@@ -13,12 +13,6 @@ pass-requires-clause-form c =
     let found = c.in-Some.ensures.lookup in
     let here = slice_get_read c.args.items.now (length c.args.items.now) c.args.at c.in-Some.item.now refl (ltb-true _ _ (sym found.0)) found.1 in
     passes_at is_item c.args.items.now c.args.at c.in-Some.item.now here c.requires.forms
-
-pub pass-requires-clause-general : goal.pass-requires-clause-general
-pass-requires-clause-general c =
-    let found = c.in-Some.ensures.lookup in
-    let here = slice_get_read c.args.items.now (length c.args.items.now) c.args.at c.in-Some.item.now refl (ltb-true _ _ (sym found.0)) found.1 in
-    passes_at is_general_item c.args.items.now c.args.at c.in-Some.item.now here c.requires.general
 
 pub returns-in-None-clause-moved : goal.returns-in-None-clause-moved
 returns-in-None-clause-moved c k =

@@ -19,4 +19,9 @@ returns-in_ok-word-in_default c =
     let s = c.args.m.now in
     let i = c.args.ins.now in
     let w = c.in_ok-word-in_default in
-    subst (λ t. Acts (with_access s i (access s i)) s t (Ok w.seen)) (sym c.compute.ensures) (act_does i s w.word w.seen w.ensures.fits w.ensures.word c.requires.general c.in_default.not-Store c.in_default.not-Push (sym w.ensures.value))
+    subst (λ t. Acts (with_access s i (access s i)) s t (Ok w.seen)) (sym c.compute.ensures) (act_does i s w.word w.seen w.ensures.fits w.ensures.word (record { store = c.in_default.not-Store; low = c.in_default.not-Store4; wide = c.in_default.not-XStore; load = c.in_default.not-XLoad; push = c.in_default.not-Push }) (sym w.ensures.value))
+
+pub returns-in-XStore : goal.returns-in-XStore
+returns-in-XStore c =
+    let s = c.args.m.now in
+    subst (λ i. Acts (with_access s i (access s i)) s c.save_wide.new.m c.save_wide.result) (sym c.in-XStore.is) c.save_wide.ensures

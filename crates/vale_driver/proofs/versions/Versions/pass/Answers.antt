@@ -1,6 +1,6 @@
 use Rattle.std.proofs.Common.{◌≡◌, ap, arith}
 use Rattle.x64_syntax.specs.declared.places.FlagName.TheVariants.{Cf}
-use Rattle.x64_syntax.specs.declared.places.Place.TheVariants.{Flag}
+use Rattle.x64_syntax.specs.declared.places.MachinePlace.TheVariants.{Flag}
 use Rattle.vale_driver.specs.inner.ConditionTerms.{present_versions}
 use Rattle.vale_driver.proofs.Present.{passed_move, passed_addition}
 use Rattle.vale_driver.proofs.versions.Versions.pass.Goals as goal

@@ -1,0 +1,9 @@
+use Rattle.std.proofs.Common.{◌+◌, ◌%◌, arith}
+use Rattle.aes_words.specs.Rounds.{of_digits, cell}
+use Rattle.aes_words.proofs.Cells.{by_bytes}
+use Rattle.aes_words.proofs.rounds.shift_rows.Goals as goal
+
+pub returns : goal.returns
+returns c =
+    by_bytes c.loop-k.shifted (λ r d. cell (of_digits 256 c.args.state.now) r ((d + r) % 4)) c.loop-k.invariant.0
+    (λ k h. c.loop-k.invariant.1 k (omega arith))

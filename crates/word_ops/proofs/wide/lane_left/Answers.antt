@@ -1,0 +1,6 @@
+use Rattle.std.proofs.Common.{sym}
+use Rattle.word_ops.proofs.Shifts.{gone_left}
+use Rattle.word_ops.proofs.wide.lane_left.Goals as goal
+
+pub returns-else-n-lt32 : goal.returns-else-n-lt32
+returns-else-n-lt32 c = sym (gone_left c.args.x 32 c.args.n c.if-n-lt32.false)
