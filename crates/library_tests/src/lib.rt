@@ -16,6 +16,8 @@ mod outside;
 #[cfg(test)]
 mod places_in_trees;
 #[cfg(test)]
+mod printing;
+#[cfg(test)]
 mod terms;
 #[cfg(test)]
 mod words;

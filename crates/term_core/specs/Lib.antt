@@ -1,3 +1,11 @@
+pub mod inner
 pub mod Operators
 pub mod Terms
 pub mod Value
+pub mod Functions
+pub mod Sorted
+pub mod Rules
+pub mod Meaning
+pub mod Evaluation
+pub mod Printed
+pub mod Legible

@@ -200,9 +200,13 @@ Functions = ℕ → List Val → Val
 abbrev pub Assignment : Type 0
 Assignment = List ℕ → Sort → Val
 
+-- the assignment that gives the value to the name of that sort
+abbrev pub assigned : List ℕ → Sort → Val → Assignment → Assignment
+assigned name s v a text t = if bytes_eq name text && sort_eq s t then v else a text t
+
 -- the assignment that gives the number to the name
 abbrev pub bound : List ℕ → ℤ → Assignment → Assignment
-bound name z a other s = if bytes_eq name other && sort_eq s sort.Int then Whole z else a other s
+bound name z a = assigned name sort.Int (Whole z) a
 
 -- so many numbers from the first on
 abbrev pub all_of : ℕ → ℤ → (ℤ → Bool) → Bool

@@ -9,6 +9,7 @@ mod letters;
 mod machines;
 mod plain_run;
 mod report;
+mod scopes;
 mod script;
 mod sources;
 mod texts;

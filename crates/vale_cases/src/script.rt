@@ -3,6 +3,7 @@
 use crate::answer::{Answer, answer_of};
 use crate::commands::Run;
 use crate::machines::machined;
+use crate::scopes::scoped;
 use crate::sources::shown;
 use crate::texts::{Named, expanded};
 use anyhow::{Result, bail};
@@ -75,6 +76,9 @@ fn text_answer(alloc: Global, text: Vec<u8>) -> Answer {
 
 // What is read of a text by the library call that a key names; none where it names none.
 fn reading(alloc: Global, key: &[u8], text: &[u8]) -> Result<Option<Vec<u8>>> {
+    if matches!(key, b"scopes") {
+        return Ok(Some(scoped(alloc, text)?));
+    }
     match shown(alloc, key, text)? {
         Some(text) => Ok(Some(text)),
         None => machined(alloc, key, text),

@@ -23,7 +23,7 @@ pub use declaration::{
     AbiName, Bind, Clause, Decl, Direction, KindName, LemmaClause, Param, ReadPlace,
 };
 pub use expr::{Expr, Name};
-pub use fault::MatchFault;
+pub use fault::{MatchFault, Spotted};
 pub use laws::{
     limits_of_numbers, longest_mark, printed_as_spelled, read_as_spelled, spelled_once,
     table_of_marks,

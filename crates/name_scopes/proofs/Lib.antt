@@ -1,0 +1,4 @@
+pub mod Borrowed
+pub mod Bound
+pub mod NewExports
+pub mod Tables

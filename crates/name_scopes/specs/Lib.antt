@@ -1,0 +1,9 @@
+pub mod Faults
+pub mod Globals
+pub mod Names
+pub mod Uses
+pub mod Expressions
+pub mod Statements
+pub mod Declarations
+pub mod Sources
+pub mod inner
