@@ -1,0 +1,5 @@
+pub mod Free
+pub mod Sizes
+pub mod Substituted
+pub mod Unfolded
+pub mod inner
