@@ -1,5 +1,5 @@
 -- Lowering keeps the runs of code.
-use Rattle.std.proofs.Common.{◌≡◌, ℕ, zero, suc, ◌+◌, ◌≤◌, Bool, true, false, List, [], ◌∷◌, refl, sym, ap, ◌∙◌, subst, arith, append-nil}
+use Rattle.std.proofs.Common.{◌≡◌, ℕ, zero, suc, ◌+◌, ◌≤◌, Bool, true, false, List, [], ◌∷◌, length, refl, sym, ap, ◌∙◌, subst, arith, append-nil}
 use Rattle.std.specs.Prelude.{◌≢◌, Some, slice_get}
 use Rattle.x64_syntax.specs.declared.places.Reg.{Reg as GeneralReg}
 use Rattle.x64_syntax.specs.declared.operands.Opr.{Opr}
@@ -7,6 +7,7 @@ use Rattle.x64_syntax.specs.declared.conditions.Cmp.{Cmp}
 use Rattle.x64_syntax.specs.declared.items.Item.{Item}
 use Rattle.x64_syntax.specs.declared.items.Item.TheVariants as item
 use Rattle.x64_syntax.specs.Code.{Prog, Done, Step, If, Loop}
+use Rattle.term_core.specs.Value.{Functions}
 use Rattle.x64_meaning.specs.State.{State, IsState}
 use Rattle.x64_meaning.specs.Run.{Way, start, next_way, follow, item_step, run, Running, StandAt}
 use Rattle.x64_meaning.specs.Run as machine
@@ -208,7 +209,7 @@ module _ (items : List Item) (differ : LabelsDiffer items) where
             let all = before items m pos (start s) (pos + 1) (later 1 (start s)) at.last OutOfTurns (pass_entry items pos name (start s) at.entry) still in
             absurd (never_both w all.at all.way (sym (ended_later m all.more pos (start s) w h) ∙ all.runs))
 
-  pub keeps_meets : (stack k pos : ℕ) (p : Prog) (name : List ℕ) (c : Contract) → StandAt items pos (export_items k name p) → CodeMeets c stack p → Meets c items pos
-  keeps_meets stack k pos p name c stands meets s ok pre =
-      let m = meets s ok pre in
-      (m.1.steps + 2, later 2 m.1, keeps_ends stack k pos p name s stands ok m.0 m.1 m.2, m.3, m.4)
+  pub keeps_meets : (m : Functions) (k pos : ℕ) (p : Prog) (name : List ℕ) (c : Contract) → StandAt items pos (export_items k name p) → CodeMeets m c p → Meets m c items pos
+  keeps_meets m k pos p name c stands meets ghosts s ok pre =
+      let r = meets ghosts s ok pre in
+      (r.1.steps + 2, later 2 r.1, keeps_ends (length c.blocks) k pos p name s stands ok r.0 r.1 r.2, r.3, r.4)

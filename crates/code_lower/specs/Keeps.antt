@@ -1,11 +1,12 @@
 -- What it means that lowering keeps the runs of code.
-use Rattle.std.specs.Prelude.{◌≡◌, ℕ, ◌+◌, ◌≤◌, ◌^◌, Bool, true, not, ◌&&◌, List, [], ◌∷◌, Some, slice_get, map}
+use Rattle.std.specs.Prelude.{◌≡◌, ℕ, ◌+◌, ◌≤◌, ◌^◌, Bool, true, not, ◌&&◌, List, [], ◌∷◌, Some, slice_get, map, length}
 use Rattle.std.specs.List.{list_all, list_any}
 use Rattle.std.specs.Str.{bytes_eq}
 use Rattle.x64_syntax.specs.declared.items.Item.{Item}
 use Rattle.x64_syntax.specs.declared.items.Item.TheVariants.{Label}
 use Rattle.x64_syntax.specs.Words.{is_export_text}
 use Rattle.x64_syntax.specs.Code.{Prog, code_ok}
+use Rattle.term_core.specs.Value.{Functions, Assignment}
 use Rattle.x64_meaning.specs.State.{State, IsState}
 use Rattle.x64_meaning.specs.Run.{Way, start}
 use Rattle.x64_meaning.specs.Contract.{Contract, Pre, Post, Frame}
@@ -21,11 +22,11 @@ abbrev pub later : ℕ → Way → Way
 later n w = record { state = w.state; seen = w.seen; steps = w.steps + n }
 
 -- Code, started in any state that meets what is asked, ends under some bound, meets what is promised and changes only
--- declared places. The number is that of the stack's block.
-abbrev pub CodeMeets : Contract → ℕ → Prog → Type 0
-CodeMeets c stack p =
-    (s : State) → IsState s → Pre c s →
-    (n : ℕ) × (w : Way) × (guarded_run stack n p (start s) ≡ Ended w) × Post c s w.state × Frame c s w.state
+-- declared places. The stack is the block behind the contract's parameters.
+abbrev pub CodeMeets : Functions → Contract → Prog → Type 0
+CodeMeets m c p =
+    (ghosts : Assignment) (s : State) → IsState s → Pre m c ghosts s →
+    (n : ℕ) × (w : Way) × (guarded_run (length c.blocks) n p (start s) ≡ Ended w) × Post m c ghosts s w.state × Frame c s w.state
 
 abbrev pub all_labels : List (List ℕ × Prog) → ℕ
 all_labels [] = 0

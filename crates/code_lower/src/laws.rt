@@ -5,6 +5,7 @@ ghost use Rattle.x64_syntax.specs.declared.items.Item.{Item};
 ghost use Rattle.x64_syntax.specs.Code.{Prog};
 ghost use Rattle.x64_syntax.specs.Programs.{program_ok};
 ghost use Rattle.x64_blocks.specs.Memory.{holds, block_at};
+ghost use Rattle.term_core.specs.Value.{Functions};
 ghost use Rattle.x64_meaning.specs.State.{State, IsState};
 ghost use Rattle.x64_meaning.specs.Run.{Way, start, run, StandAt};
 ghost use Rattle.x64_meaning.specs.Run as machine;
@@ -22,7 +23,7 @@ ghost use Rattle.code_lower.specs.Keeps.{LabelsDiffer, later, CodeMeets, all_lab
 pub fn lowering_keeps()
     ensures ends { (stack n k pos : ℕ) (p : Prog) (name : List ℕ) (items : List Item) (s : State) (v : Way) → LabelsDiffer items → StandAt items pos (export_items k name p) → IsState s → guarded_run stack n p (start s) ≡ Ended v → run items (v.steps + 2) pos (start s) ≡ machine.Ended (later 2 v) }
     ensures conversely { (stack k pos m : ℕ) (p : Prog) (name : List ℕ) (items : List Item) (s : State) (w : Way) → LabelsDiffer items → StandAt items pos (export_items k name p) → IsState s → ((n : ℕ) → guarded_run stack n p (start s) ≢ Faulted) → run items m pos (start s) ≡ machine.Ended w → (n : ℕ) × (v : Way) × (guarded_run stack n p (start s) ≡ Ended v) }
-    ensures meets { (stack k pos : ℕ) (p : Prog) (name : List ℕ) (items : List Item) (c : Contract) → LabelsDiffer items → StandAt items pos (export_items k name p) → CodeMeets c stack p → Meets c items pos }
+    ensures meets { (m : Functions) (k pos : ℕ) (p : Prog) (name : List ℕ) (items : List Item) (c : Contract) → LabelsDiffer items → StandAt items pos (export_items k name p) → CodeMeets m c p → Meets m c items pos }
 {}
 
 /// A greater bound on turns doesn't change a guarded run that ended.

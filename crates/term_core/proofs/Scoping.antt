@@ -10,7 +10,7 @@ use Rattle.term_core.specs.Operators.{sort_eq}
 use Rattle.term_core.specs.Terms.{Tm}
 use Rattle.term_core.specs.Functions.{Function}
 use Rattle.term_core.specs.Rules.{is_variable, is_param, is_in_body, free_all, prev}
-use Rattle.term_core.specs.inner.Scopes.{in_scope, scope_layer}
+use Rattle.term_core.specs.Scopes.{in_scope, scope_layer}
 
 pub in_params : (ps : Bor (List Variable)) → in_scope (scope.Params ps) ≡ (λ text s. list_any (λ v. is_variable v text s) ps.now)
 in_params ps = ap in_scope (sym (scope.rolls-Params ps)) ∙ fold-roll-Scope (List ℕ → Sort → Bool) scope_layer (Scope-F.Params ps)

@@ -6,6 +6,7 @@ pub mod Functions
 pub mod Sorted
 pub mod Rules
 pub mod Meaning
-pub mod Evaluation
+pub mod Literals
+pub mod Scopes
 pub mod Printed
 pub mod Legible

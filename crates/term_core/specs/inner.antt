@@ -1,5 +1,4 @@
 -- Definitions of private contracts and of proofs: no claim of the program rests on them.
 pub mod Uses
 pub mod Checked
-pub mod Scopes
 pub mod Pieces

@@ -5,7 +5,6 @@
 //! `print_term` writes exactly the text of `specs/Printed.antt`, which tells terms apart (`printing_tells_terms_apart`).
 #![tactic(auto)]
 
-mod evaluation;
 mod fitting;
 mod functions;
 mod laws;
@@ -17,12 +16,12 @@ mod scope;
 mod sorted;
 mod term;
 
-pub use evaluation::ValueFault;
 pub use fitting::fits;
 pub use functions::{AddFunFault, BrokenRule, Fun, Funs, Variable};
 pub use laws::printing_tells_terms_apart;
-pub use literal::{Entry, Literal};
+pub use literal::{Entry, Literal, value_of};
 pub use operator::{BinOp, CountedOp, Operator, UnOp, operator_of};
 pub use printing::print_term;
 pub use rules::broken_rule;
+pub use scope::{Scope, knows_free};
 pub use term::{Sequent, Term, same, sort_of};

@@ -1,10 +1,9 @@
 // Literals, and environments that give them to names.
 
 ghost use Rattle.std.specs.Prelude.{◌≡◌, Option, option_map, option_copied};
-ghost use Rattle.term_core.specs.Evaluation.{literal_sort, literal_value, entry_value};
+ghost use Rattle.term_core.specs.Literals.{literal_sort, literal_value, entry_value};
 ghost use Rattle.term_core.specs.declared.literal.Literal.{Literal as ALiteral};
 
-use sqlite_items::Items;
 use x64_syntax::{Sort, Text};
 
 /// A value of a term.
@@ -14,7 +13,7 @@ pub enum Literal {
     Bool(bool),
     W64(u64),
     W128(u128),
-    Arr(Items<u64>),
+    Arr(Vec<u64>),
 }
 
 /// A name's value. It is one of the name as a variable of the literal's sort.
@@ -40,7 +39,7 @@ impl Literal {
 }
 
 /// The value that the first entry of the name and of its sort gives it.
-pub(crate) fn value_of<'a>(entries: &'a [Entry], name: &Text, sort: Sort) -> Option<&'a Literal>
+pub fn value_of<'a>(entries: &'a [Entry], name: &Text, sort: Sort) -> Option<&'a Literal>
     ensures { option_map literal_value (option_copied result) ≡ entry_value entries.now name.now sort }
 {
     entries

@@ -2,10 +2,10 @@
 
 ghost use Rattle.std.specs.Prelude.{◌≡◌, ◌||◌, map, is_some};
 ghost use Rattle.std.specs.List.{list_any};
-ghost use Rattle.term_core.specs.Evaluation.{entry_value};
+ghost use Rattle.term_core.specs.Literals.{entry_value};
 ghost use Rattle.term_core.specs.Rules.{free_all, all_free_all, is_variable, is_bound};
 ghost use Rattle.term_core.specs.Terms.{tree, tms};
-ghost use Rattle.term_core.specs.inner.Scopes.{in_scope};
+ghost use Rattle.term_core.specs.Scopes.{in_scope};
 
 use crate::functions::Variable;
 use crate::literal::{Entry, value_of};
@@ -14,7 +14,7 @@ use x64_syntax::{Sort, Text};
 
 /// Which names are known.
 #[derive(Drop)]
-pub(crate) enum Scope<'a> {
+pub enum Scope<'a> {
     /// Those of an environment.
     Entries(&'a [Entry]),
     /// The parameters of a function.
@@ -47,7 +47,7 @@ fn knows(scope: &Scope, name: &Text, sort: Sort) -> bool
 
 /// Whether each free name of a term is known.
 #[cycle(knows_all)]
-pub(crate) fn knows_free(t: &Term, scope: &Scope) -> bool
+pub fn knows_free(t: &Term, scope: &Scope) -> bool
     ensures { result ≡ free_all (in_scope scope.now) (tree t.now) }
 {
     match t {

@@ -1,5 +1,5 @@
 -- A call is worth what it is unfolded to.
-use Rattle.std.proofs.Common.{◌≡◌, ℕ, zero, suc, ◌+◌, ◌-◌, ◌<◌, ℤ, pos, negsuc, Bool, true, false, List, [], ◌∷◌, length, map, set, get_or, refl, sym, ap, ◌∙◌, arith, Option, None, Some}
+use Rattle.std.proofs.Common.{◌≡◌, ℕ, zero, suc, ◌-◌, ◌<◌, ℤ, pos, negsuc, Bool, true, false, List, [], ◌∷◌, length, map, set, get_or, refl, sym, ap, ◌∙◌, arith, Option, None, Some}
 use Rattle.std.specs.Prelude.{◌&&◌, ◌||◌, ◌-ℤ◌, int_le, is_none, option_map, slice_get, if◌then◌else◌}
 use Rattle.std.specs.List.{list_any}
 use Rattle.std.specs.Str.{bytes_eq}
@@ -11,7 +11,7 @@ use Rattle.x64_syntax.specs.declared.type_words.Sort.{Sort}
 use Rattle.x64_syntax.specs.declared.type_words.Sort.TheVariants as sort
 use Rattle.term_core.specs.declared.functions.Variable.{Variable}
 use Rattle.term_core.specs.Operators.{sort_eq}
-use Rattle.term_core.specs.Terms.{Tm, Tms, Int, Call, no_tms, more_tms, tm_sort}
+use Rattle.term_core.specs.Terms.{Tm, Tms, Call, no_tms, more_tms, tm_sort}
 use Rattle.term_core.specs.Value.{Val, Whole, whole, cast, count, Functions, Assignment, assigned, difference_value, value, values}
 use Rattle.term_core.specs.Functions.{Function}
 use Rattle.term_core.specs.Sorted.{well_sorted, is_sorted, tms_sorts, sorts_eq, fun_takes, is_of_sort}
@@ -21,7 +21,6 @@ use Rattle.term_core.proofs.Comparing.{sort_eq_is}
 use Rattle.term_core.proofs.Values.{value-sorted}
 use Rattle.term_subst.specs.Substituted.{with_images, puts_freely}
 use Rattle.term_subst.specs.Unfolded.{argument_of, or_previous, last_argument, with_one_less, step_images, unfolded_by, unfolded, parts_capture_nothing, fun_captures_nothing, unfolding_captures_nothing}
-use Rattle.term_subst.proofs.Agreeing.{choice}
 use Rattle.term_subst.proofs.Substituting.{OfSorts, Puts, put_sort, put-value, none-some, some-none, everything}
 use Rattle.term_subst.proofs.Meanings.{obeying, means}
 
@@ -66,7 +65,7 @@ module _ (m : Functions) (a : Assignment) (f : Function) (ts : Tms) (h : sorts_e
   }
 
   module _ (call : Tm) (call_sort : tm_sort call ≡ f.result) where
-    step-sorts : OfSorts (or_previous f.result call (argument_of f.params ts))
+    pub step-sorts : OfSorts (or_previous f.result call (argument_of f.params ts))
     step-sorts = record { sorted = λ text s u e. either text s u (bytes_eq prev text) (sort_eq f.result s) refl e }
       where
         either : (text : List ℕ) (s : Sort) (u : Tm) (b c : Bool) → sort_eq f.result s ≡ c → (if b && c then Some call else argument_of f.params ts text s) ≡ Some u → tm_sort u ≡ s
@@ -156,7 +155,7 @@ turns-last m f z vs n (suc c) h =
     ∙ ap (λ l. value m (assigned prev f.result (turns m f z vs c) (arguments f.params l)) f.body) (last_twice vs (pos n) (pos (suc c)))
 
 -- The last argument of a call that fits is of the sort of the last parameter.
-last_sort : (ts : Tms) (ps : List Variable) → sorts_eq (tms_sorts ts) (map (λ p. p.sort) ps) ≡ true → last_is_number ps ≡ true → tm_sort (last_argument ts) ≡ sort.Int
+pub last_sort : (ts : Tms) (ps : List Variable) → sorts_eq (tms_sorts ts) (map (λ p. p.sort) ps) ≡ true → last_is_number ps ≡ true → tm_sort (last_argument ts) ≡ sort.Int
 last_sort no_tms [] h k = absurd (false≢true k)
 last_sort no_tms (p ∷ ps) h k = absurd (false≢true h)
 last_sort (more_tms t ts) [] h k = absurd (false≢true h)

@@ -6,3 +6,4 @@ pub mod Meanings
 pub mod Naming
 pub mod Putting
 pub mod Substituting
+pub mod WellUnfolded

@@ -1,5 +1,5 @@
 -- What a function means is what its parts are worth by the meaning of all functions.
-use Rattle.std.proofs.Common.{◌≡◌, ℕ, zero, suc, ◌+◌, ◌<◌, pos, Bool, true, false, List, [], ◌∷◌, ◌++◌, length, refl, sym, ap, ◌∙◌, arith, Option, None, Some, length-append}
+use Rattle.std.proofs.Common.{◌≡◌, ℕ, zero, suc, ◌+◌, ◌<◌, pos, Bool, true, false, List, [], ◌∷◌, ◌++◌, length, refl, sym, ap, ◌∙◌, arith, Option, None, Some, length-append, append_assoc, subst}
 use Rattle.std.specs.Prelude.{◌&&◌, ◌||◌, ◌==◌, is_none, not, slice_get, if◌then◌else◌}
 use Rattle.std.specs.List.{list_all, list_any}
 use Rattle.std.specs.Str.{bytes_eq}
@@ -39,12 +39,26 @@ obeys earlier f h =
     let bound = and_parts (holds_of (free_all (is_param f)) f.zero_part) (free_all (is_in_body f f.zero_part) f.body) free.0 in
     record { last = last.0; zero_sorted = sorted.0; body_sorted = sorted.1; zero_free = bound.0; body_free = bound.1 }
 
-pub obeying : (earlier fs : List Function) → all_obey earlier fs ≡ true → (i : ℕ) (f : Function) → slice_get fs i ≡ Some f → (e : List Function) × Obeys e f
+-- the functions of the one list stand in the other at their numbers
+pub record Before (earlier fs : List Function) : Type 0 where
+  pub kept : (k : ℕ) (f : Function) → slice_get earlier k ≡ Some f → slice_get fs k ≡ Some f
+
+front_kept : (front back : List Function) (k : ℕ) (f : Function) → slice_get front k ≡ Some f → slice_get (front ++ back) k ≡ Some f
+front_kept [] back k f at = absurd (let differs : None ≡ Some f → ⊥ = λ q. cc in differs at)
+front_kept (g ∷ front) back zero f at = at
+front_kept (g ∷ front) back (suc k) f at = front_kept front back k f at
+
+pub obeying : (earlier fs : List Function) → all_obey earlier fs ≡ true → (i : ℕ) (f : Function) → slice_get fs i ≡ Some f → (e : List Function) × Obeys e f × Before e (earlier ++ fs)
 obeying earlier [] h i f at = absurd (let differs : None ≡ Some f → ⊥ = λ q. cc in differs at)
 obeying earlier (g ∷ fs) h zero f at =
-    let same : g ≡ f = cc in
-    (earlier, obeys earlier f (ap (λ x. is_none (broken_rule earlier x)) (sym same) ∙ (and_parts (is_none (broken_rule earlier g)) _ h).0))
-obeying earlier (g ∷ fs) h (suc i) f at = obeying (earlier ++ g ∷ []) fs (and_parts (is_none (broken_rule earlier g)) _ h).1 i f at
+    let same : g ≡ f = cc in (
+      earlier,
+      obeys earlier f (ap (λ x. is_none (broken_rule earlier x)) (sym same) ∙ (and_parts (is_none (broken_rule earlier g)) _ h).0),
+      record { kept = front_kept earlier (g ∷ fs) },
+    )
+obeying earlier (g ∷ fs) h (suc i) f at =
+    let o = obeying (earlier ++ g ∷ []) fs (and_parts (is_none (broken_rule earlier g)) _ h).1 i f at in
+    (o.0, o.1, subst (Before o.0) (append_assoc earlier (g ∷ []) fs) o.2)
 
 -- earlier numbers keep their meaning
 kept_below : (fs : List Function) (m : Functions) (k j : ℕ) (vs : List Val) → j < k → meaning_from m k fs j vs ≡ m j vs

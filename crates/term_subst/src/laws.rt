@@ -42,7 +42,8 @@ pub fn unfolding_keeps_values()
     ensures { (fs : List Function) (a : Assignment) (call u : Tm) → all_obey [] fs ≡ true → well_sorted fs call ≡ true → unfolding_captures_nothing fs call ≡ true → unfolded fs call ≡ Some u → value (meaning fs) a u ≡ value (meaning fs) a call }
 {}
 
-/// A call is of the sort of what it is unfolded to.
+/// A call is of the sort of what it is unfolded to, which is well formed.
 pub fn unfolding_keeps_sorts()
-    ensures { (fs : List Function) (call u : Tm) → all_obey [] fs ≡ true → well_sorted fs call ≡ true → unfolded fs call ≡ Some u → tm_sort u ≡ tm_sort call }
+    ensures sort { (fs : List Function) (call u : Tm) → all_obey [] fs ≡ true → well_sorted fs call ≡ true → unfolded fs call ≡ Some u → tm_sort u ≡ tm_sort call }
+    ensures well { (fs : List Function) (call u : Tm) → all_obey [] fs ≡ true → well_sorted fs call ≡ true → unfolded fs call ≡ Some u → well_sorted fs u ≡ true }
 {}

@@ -41,7 +41,7 @@ use Rattle.straight_line.specs.inner.Fits.{IsInstruction, IsStraight}
 use Rattle.vale_driver.specs.Certificate.{Pair, Proves}
 use Rattle.vale_driver.specs.Ring.{ring_closes}
 use Rattle.vale_driver.specs.inner.ConditionTerms.{is_built}
-use Rattle.vale_driver.specs.Build.{contract_of, changes_place, condition_hyps, condition_goal, straight_code, exports_of, lowered_code}
+use Rattle.vale_driver.specs.Build.{promise_exp, contract_of, changes_place, condition_hyps, condition_goal, straight_code, exports_of, lowered_code}
 use Rattle.vale_driver.specs.Words.{BuildWords}
 use Rattle.vale_driver.specs.Builds.{BuildFiles, BuildHolds, Accepted, IsBuilt}
 use Rattle.vale_driver.specs.inner.Stops.{SourcesSpell, FileHolds}
@@ -161,6 +161,9 @@ fits p ps ok closes = record {
   short = omega (arith, ok.few);
   declared = λ q out. declared p p.instructions q ok.each out;
   rsp = ok.rsp;
+  abi = refl;
+  promises = promise_exp p.promise ∷ [];
+  promised = refl;
   proved = ((λ a holds. ring_sound no_functions a (condition_hyps p) (condition_goal p) ps closes holds), tt);
 }
 
@@ -194,8 +197,8 @@ built tells b h p ps text ok holds accepted e =
       right = record {
         reads = reads;
         reads_only = λ items k. one_list text items (lowered_code p) k reads;
-        meets = subst (λ l. Meets (contract_of p) l 0) (sym (straight_lowered p)) (straight_meets p.export p.instructions (contract_of p) closed);
-        same_runs = subst (λ l. SameRuns (contract_of p) l 0) (sym (straight_lowered p)) (straight_runs p.export p.instructions (contract_of p) closed);
+        meets = subst (λ l. Meets no_functions (contract_of p) l 0) (sym (straight_lowered p)) (straight_meets no_functions p.export p.instructions (contract_of p) closed);
+        same_runs = subst (λ l. SameRuns no_functions (contract_of p) l 0) (sym (straight_lowered p)) (straight_runs no_functions p.export p.instructions (contract_of p) closed);
       };
     }
 

@@ -9,7 +9,7 @@ use Rattle.term_core.specs.declared.operator.BinOp.TheVariants as bin
 use Rattle.term_core.specs.Terms.{Tm}
 use Rattle.x64_meaning.specs.Exp.{Exp, Before, After, W64, Bin}
 use Rattle.x64_meaning.specs.Contract.{Contract}
-use Rattle.x64_meaning.specs.Condition.{straight_hyps, straight_goal}
+use Rattle.x64_meaning.specs.Condition.{contract_term, straight_hyps, straight_goal}
 use Rattle.code_lower.specs.Lowered.{lowered_items}
 use Rattle.straight_line.specs.declared.form.Promise.{Promise}
 use Rattle.straight_line.specs.declared.form.Promise.TheVariants.{Constant, Old, Sum}
@@ -33,7 +33,17 @@ changes_place p (Xmm x) = false
 changes_place p (Flag f) = true
 
 abbrev pub contract_of : StraightLine → Contract
-contract_of p = record { reads = reads_place p; modifies = changes_place p; requires_ = []; ensures_ = promise_exp p.promise ∷ [] }
+contract_of p = record {
+  reads = reads_place p;
+  secret = λ q. false;
+  modifies = changes_place p;
+  blocks = [];
+  ghosts = [];
+  requires_ = [];
+  ensures_ = contract_term (promise_exp p.promise) ∷ [];
+  stack = 0;
+  abi = None;
+}
 
 -- the condition: the instructions' equations, and the promise as the goal
 abbrev pub condition_hyps : StraightLine → List Tm

@@ -3,6 +3,7 @@ use Rattle.std.specs.Prelude.{◌≡◌, ℕ, true, false, List, Option, Some, m
 use Rattle.std.specs.List.{AllByRecursion}
 use Rattle.x64_syntax.specs.declared.items.Item.{Item}
 use Rattle.x64_meaning.specs.Contract.{Meets, SameRuns}
+use Rattle.x64_meaning.specs.Condition.{no_functions}
 use Rattle.gas_text.specs.Text.{ReadsAs}
 use Rattle.straight_line.specs.declared.form.StraightLine.{StraightLine}
 use Rattle.vale_driver.specs.declared.status.Refusal.{Refusal}
@@ -78,8 +79,8 @@ pub record Accepted (b : BuildWords) (h : BuildFiles) (p : StraightLine) (steps 
 pub record IsRight (p : StraightLine) (text : List ℕ) : Type 0 where
   pub reads : ReadsAs text (lowered_code p)
   pub reads_only : (items : List Item) → ReadsAs text items → items ≡ lowered_code p
-  pub meets : Meets (contract_of p) (lowered_code p) 0
-  pub same_runs : SameRuns (contract_of p) (lowered_code p) 0
+  pub meets : Meets no_functions (contract_of p) (lowered_code p) 0
+  pub same_runs : SameRuns no_functions (contract_of p) (lowered_code p) 0
 
 -- What a finished build means: nothing of its files is refused, and its text is right.
 pub record IsBuilt (tells : List ℕ → Option (List ℕ)) (b : BuildWords) (text : List ℕ) : Type 0 where

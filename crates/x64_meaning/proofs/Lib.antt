@@ -3,6 +3,7 @@ pub mod Exps
 pub mod Apply
 pub mod Ordered
 pub mod Names
+pub mod Named
 pub mod Standing
 pub mod Straight
 pub mod Numbers

@@ -7,7 +7,6 @@ use Rattle.x64_syntax.specs.declared.places.Reg.TheVariants.{Rsp}
 use Rattle.x64_syntax.specs.declared.places.FlagName.TheVariants.{Cf, Zf, Sf, Of}
 use Rattle.x64_syntax.specs.declared.places.MachinePlace.{MachinePlace}
 use Rattle.x64_syntax.specs.declared.places.MachinePlace.TheVariants.{Reg, Flag}
-use Rattle.x64_syntax.specs.Places.{place_eq}
 use Rattle.x64_syntax.proofs.PlaceLemmas.{place_eq_is}
 use Rattle.x64_syntax.specs.declared.operands.Mem.{Mem}
 use Rattle.x64_syntax.specs.declared.instructions.Ins.{Ins}
@@ -16,19 +15,24 @@ use Rattle.x64_syntax.specs.Instructions.{or_else, loads_from, stores_to, access
 use Rattle.x64_syntax.specs.declared.items.Item.{Item}
 use Rattle.x64_syntax.specs.declared.items.Item.TheVariants as item
 use Rattle.x64_syntax.specs.declared.type_words.Sort.{Sort}
-use Rattle.term_core.specs.Value.{Val, Word, Truth, cast, val_eq, Assignment, value, Holds, True}
+use Rattle.term_core.specs.Value.{Val, Word, Truth, cast, val_eq, Functions, Assignment, value, Holds, True}
+use Rattle.x64_blocks.specs.Memory.{block_at}
 use Rattle.x64_meaning.specs.State.{State, IsState, place_sort, read, reg}
 use Rattle.x64_meaning.specs.Exp.{Exp, no_words, exp_value, exp_term, among}
 use Rattle.x64_meaning.specs.Table.{Equation, equations, writes, reads, apply, in_order}
 use Rattle.x64_meaning.specs.Run.{access, operand_access, after_stack, first_undefined, with_access, with_flags, does, Done, Way, start, next_way, Ended, follow, ins_step, item_step, run, StandAt}
-use Rattle.x64_meaning.specs.Contract.{Contract, Worth, Post, Frame, Meets, SameRuns}
-use Rattle.x64_meaning.specs.Condition.{no_terms, no_functions, uses_stack, Versions, version, version_name, next_versions, hypothesis, hypotheses, end_versions, first_versions, straight_hyps, straight_goal, is_plain, keeps_place, straight_items, StraightFits, Names, IsNamed}
+use Rattle.x64_syntax.specs.Places.{place_eq, place_name}
+use Rattle.x64_syntax.specs.Instructions.{is_among}
+use Rattle.term_core.specs.Terms.{Name}
+use Rattle.x64_meaning.specs.Contract.{Contract, entry_name, seen, saved_places, extent, Post, Frame, Meets, SameRuns}
+use Rattle.x64_meaning.specs.Condition.{no_terms, no_functions, uses_stack, Versions, version, version_name, next_versions, hypothesis, hypotheses, end_versions, first_versions, straight_hyps, straight_goal, is_plain, keeps_place, straight_items, Worth, contract_term, StraightFits, Names, IsNamed}
 use Rattle.term_core.proofs.Values.{val_eq_same}
 use Rattle.x64_meaning.proofs.Reading.{read-sorted}
 use Rattle.x64_meaning.proofs.Standing.{stands_behind}
 use Rattle.x64_meaning.proofs.Exps.{exp_term-value, exp_value-same, exp_value-all}
 use Rattle.x64_meaning.proofs.Apply.{apply-other, apply-IsState, apply-blocks, apply-equations, Equal, order_of, places, among_head, among_tail}
 use Rattle.x64_meaning.proofs.Ordered.{equations-in_order}
+use Rattle.x64_meaning.proofs.Named.{read_now, read_at_entry}
 use Rattle.x64_meaning.proofs.Names.{place_in, version_in, place_in-version_name, version_in-version_name}
 
 -- the state after an instruction that loads nothing
@@ -229,12 +233,26 @@ blocks_same : (is : List Ins) (s : State) → (end_of s is).blocks ≡ s.blocks
 blocks_same [] s = refl
 blocks_same (i ∷ is) s = blocks_same is (next s i) ∙ apply-blocks s no_words (equations i) s
 
+end-IsState : (is : List Ins) (s : State) → IsState s → IsState (end_of s is)
+end-IsState [] s ok = ok
+end-IsState (i ∷ is) s ok = end-IsState is (next s i) (next-IsState s i ok)
+
 word_same : (m n : ℕ) → Word m ≡ Word n → m ≡ n
 word_same m n h = cc
 
-promises_hold : (es : List Exp) (is : List Ins) (s : State) → IsState s → list_all is_plain is ≡ true → length is < 2 ^ 64 → AllByRecursion (λ e. True no_functions (straight_hyps is) (straight_goal is e)) es → AllByRecursion (Worth (read s) (read (end_of s is))) es
-promises_hold [] is s ok plain small h = tt
-promises_hold (e ∷ es) is s ok plain small h = (goal_true is e s ok plain small h.0, promises_hold es is s ok plain small h.1)
+-- a contract's term of an expression that is true holds
+holds_as_worth : (m : Functions) (c : Contract) (ghosts : Assignment) (s t : State) → IsState s → IsState t → (e : Exp) → Worth (read s) (read t) e → Holds m (seen c ghosts s t) (contract_term e)
+holds_as_worth m c ghosts s t oks okt e worth =
+    let a = seen c ghosts s t in
+    let term = exp_term-value (λ p. Name (entry_name (place_name p)) (place_sort p)) (λ p. Name (place_name p) (place_sort p)) no_terms (λ p. refl) (λ p. refl) (λ k. refl) m a e in
+    term ∙ exp_value-all _ _ _ _ no_words (λ p. read_at_entry m c ghosts s t p oks) (λ p. read_now m c ghosts s t p okt) e ∙ worth
+
+promises_hold : (m : Functions) (c : Contract) (ghosts : Assignment) (es : List Exp) (is : List Ins) (s : State) → IsState s → list_all is_plain is ≡ true → length is < 2 ^ 64 → AllByRecursion (λ e. True no_functions (straight_hyps is) (straight_goal is e)) es → AllByRecursion (Holds m (seen c ghosts s (end_of s is))) (map contract_term es)
+promises_hold m c ghosts [] is s ok plain small h = tt
+promises_hold m c ghosts (e ∷ es) is s ok plain small h = (
+  holds_as_worth m c ghosts s (end_of s is) ok (end-IsState is s ok) e (goal_true is e s ok plain small h.0),
+  promises_hold m c ghosts es is s ok plain small h.1,
+)
 
 pub straight_named : (name : List ℕ) (is : List Ins) → list_all is_plain is ≡ true → length is < 2 ^ 64 → IsNamed is (straight_items name is) 0
 straight_named name is plain small s ok =
@@ -249,21 +267,30 @@ straight_named name is plain small s ok =
     } in
     (suc r.0, r.1, r.2, subst (Names is s) (sym r.3) names)
 
-pub straight_meets : (name : List ℕ) (is : List Ins) (c : Contract) → StraightFits is c → Meets c (straight_items name is) 0
-straight_meets name is c fits s ok pre =
+pub straight_meets : (m : Functions) (name : List ℕ) (is : List Ins) (c : Contract) → StraightFits is c → Meets m c (straight_items name is) 0
+straight_meets m name is c fits ghosts s ok pre =
     let items = straight_items name is in
+    let t = end_of s is in
     let w0 = next_way (start s) s [] in
     let body = map item.Ins is ++ item.Ret ∷ [] in
     let has = stands_behind (item.Entry name ∷ []) body in
     let r = run_straight items is 1 w0 fits.plain has in
-    let same : r.1.state ≡ end_of s is = r.3 in
+    let same : r.1.state ≡ t = r.3 in
     let entry : run items (suc r.0) 0 (start s) ≡ run items r.0 1 w0 = refl in
-    let holds = promises_hold c.ensures_ is s ok fits.plain fits.short fits.proved in
-    let others : (p : MachinePlace) → c.modifies p ≡ false → read (end_of s is) p ≡ read s p = λ p m. unwritten_same is s p (fits.declared p m) in
-    let rsp : reg (end_of s is) Rsp ≡ reg s Rsp = word_same _ _ (others (Reg Rsp) fits.rsp) in
-    let post : Post c s (end_of s is) = record { holds = holds; rsp = rsp } in
-    let frame : Frame c s (end_of s is) = record { blocks = blocks_same is s; others = others } in
-    (suc r.0, r.1, entry ∙ r.2, subst (Post c s) (sym same) post, subst (Frame c s) (sym same) frame)
+    let promises = promises_hold m c ghosts fits.promises is s ok fits.plain fits.short fits.proved in
+    let holds = subst (AllByRecursion (Holds m (seen c ghosts s t))) (sym fits.promised) promises in
+    let places : (p : MachinePlace) → c.modifies p ≡ false → read t p ≡ read s p = λ p h. unwritten_same is s p (fits.declared p h) in
+    let rsp : reg t Rsp ≡ reg s Rsp = word_same _ _ (places (Reg Rsp) fits.rsp) in
+    let none : saved_places c.abi ≡ [] = ap saved_places fits.abi in
+    let saved : (p : MachinePlace) → is_among (saved_places c.abi) p ≡ true → read t p ≡ read s p = λ p h. absurd (false≢true (subst (λ ps. is_among ps p ≡ true) none h)) in
+    let post : Post m c ghosts s t = record { holds = holds; rsp = rsp; saved = saved } in
+    let blocks = blocks_same is s in
+    let frame : Frame c s t = record {
+      extents = ap (map extent) blocks;
+      places = places;
+      contents = λ k h. ap (λ bs. (block_at bs k).bytes) blocks;
+    } in
+    (suc r.0, r.1, entry ∙ r.2, subst (Post m c ghosts s) (sym same) post, subst (Frame c s) (sym same) frame)
 
 ended_is : (v w : Way) → Ended v ≡ Ended w → v ≡ w
 ended_is v w h = cc
@@ -289,9 +316,9 @@ alike_runs items (i ∷ is) at (suc n) v w v' plain has a h =
     let rest = alike_runs items is (at + 1) n (next_way v (next v.state i) []) (next_way w (next w.state i) []) v' p.1 has.1 (one_more v w (next v.state i) (next w.state i) a) (sym (goes_on v) ∙ h) in
     (rest.0, goes_on w ∙ rest.1, rest.2)
 
-pub straight_runs : (name : List ℕ) (is : List Ins) (c : Contract) → StraightFits is c → SameRuns c (straight_items name is) 0
-straight_runs name is c fits s t oks okt pres pret agree zero v h = absurd cc
-straight_runs name is c fits s t oks okt pres pret agree (suc n) v h =
+pub straight_runs : (m : Functions) (name : List ℕ) (is : List Ins) (c : Contract) → StraightFits is c → SameRuns m c (straight_items name is) 0
+straight_runs m name is c fits g k s t oks okt pres pret agree zero v h = absurd cc
+straight_runs m name is c fits g k s t oks okt pres pret agree (suc n) v h =
     let items = straight_items name is in
     let has = stands_behind (item.Entry name ∷ []) (map item.Ins is ++ item.Ret ∷ []) in
     let begun : Alike (next_way (start s) s []) (next_way (start t) t []) = record { steps = refl; seen = refl } in

@@ -1,5 +1,5 @@
 -- The hypotheses that straight code gives, and what is to follow from them.
-use Rattle.std.specs.Prelude.{◌≡◌, ℕ, pos, ◌+◌, ◌<◌, ◌^◌, Bool, true, false, not, ◌&&◌, List, [], ◌∷◌, ◌++◌, map, decimal, length, is_none, if◌then◌else◌}
+use Rattle.std.specs.Prelude.{◌≡◌, ℕ, pos, ◌+◌, ◌<◌, ◌^◌, Bool, true, false, not, ◌&&◌, List, [], ◌∷◌, ◌++◌, map, decimal, length, None, is_none, if◌then◌else◌}
 use Rattle.std.specs.List.{list_all, AllByRecursion}
 use Rattle.x64_syntax.specs.declared.places.Reg.TheVariants.{Rsp}
 use Rattle.x64_syntax.specs.declared.places.FlagName.TheVariants.{Cf, Zf, Sf, Of}
@@ -13,11 +13,11 @@ use Rattle.x64_syntax.specs.declared.items.Item.TheVariants as item
 use Rattle.x64_syntax.specs.Places.{place_name}
 use Rattle.term_core.specs.declared.operator.BinOp.TheVariants as bin
 use Rattle.term_core.specs.Terms.{Tm, Name, Bin, W64}
-use Rattle.term_core.specs.Value.{Whole, Functions, True, Assignment, Holds, value}
-use Rattle.x64_meaning.specs.Contract.{Contract}
+use Rattle.term_core.specs.Value.{Val, Whole, Truth, Functions, True, Assignment, Holds, value}
+use Rattle.x64_meaning.specs.Contract.{Contract, entry_name}
 use Rattle.x64_meaning.specs.State.{State, IsState, place_sort, read}
 use Rattle.x64_meaning.specs.Run.{Way, start, Ended, run}
-use Rattle.x64_meaning.specs.Exp.{Exp, exp_term, among}
+use Rattle.x64_meaning.specs.Exp.{Exp, exp_value, exp_term, no_words, among}
 use Rattle.x64_meaning.specs.Table.{Equation, equations, writes, reads}
 
 -- which version of each place is present
@@ -87,14 +87,25 @@ keeps_place is p = list_all (λ i. not (among (writes i) p)) is
 abbrev pub straight_items : List ℕ → List Ins → List Item
 straight_items name is = item.Entry name ∷ (map item.Ins is ++ item.Ret ∷ [])
 
+-- the expression is true, by what the places hold before and after
+abbrev pub Worth : (MachinePlace → Val) → (MachinePlace → Val) → Exp → Type 0
+Worth before after e = exp_value before after no_words e ≡ Truth true
+
+-- an expression over the values at the entry and at the end, as a contract's term
+abbrev pub contract_term : Exp → Tm
+contract_term e = exp_term (λ p. Name (entry_name (place_name p)) (place_sort p)) (λ p. Name (place_name p) (place_sort p)) no_terms e
+
 -- What is asked of straight code for a contract: its instructions are plain, it writes declared places only and not rsp,
--- and each promise follows from its equations.
+-- no calling convention is kept, and each promise follows from its equations.
 pub record StraightFits (is : List Ins) (c : Contract) : Type 0 where
   pub plain : list_all is_plain is ≡ true
   pub short : length is < 2 ^ 64
   pub declared : (p : MachinePlace) → c.modifies p ≡ false → keeps_place is p ≡ true
   pub rsp : c.modifies (Reg Rsp) ≡ false
-  pub proved : AllByRecursion (λ e. True no_functions (straight_hyps is) (straight_goal is e)) c.ensures_
+  pub abi : c.abi ≡ None
+  pub promises : List Exp
+  pub promised : c.ensures_ ≡ map contract_term promises
+  pub proved : AllByRecursion (λ e. True no_functions (straight_hyps is) (straight_goal is e)) promises
 
 -- An assignment makes all equations of straight code true, and gives the first versions of places what they hold in the
 -- one state, and the last versions what they hold in the other.

@@ -18,7 +18,7 @@ mod step;
 mod versions;
 mod wide;
 
-pub use laws::{forms_as_in_the_table, straight_code};
+pub use laws::{forms_as_in_the_table, names_are_read, straight_code};
 pub use machine::{Fault, Flag, Machine, Obs, Seen};
 pub use step::{foresee, holds, open_flag, step_ins};
 pub use versions::{place_sort, version, version_name};

@@ -8,4 +8,4 @@ pub returns-clause-conversely : goal.returns-clause-conversely
 returns-clause-conversely c stack k pos m p name items s w differ stands ok = keeps_conversely items differ stack k pos p name s stands ok m w
 
 pub returns-clause-meets : goal.returns-clause-meets
-returns-clause-meets h stack k pos p name items c differ = keeps_meets items differ stack k pos p name c
+returns-clause-meets h m k pos p name items c differ = keeps_meets items differ m k pos p name c

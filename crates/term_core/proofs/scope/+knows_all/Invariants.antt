@@ -1,7 +1,7 @@
 use Rattle.std.proofs.Common.{◌≡◌, drop, map}
 use Rattle.term_core.specs.Rules.{all_free_all}
 use Rattle.term_core.specs.Terms.{tree, tms}
-use Rattle.term_core.specs.inner.Scopes.{in_scope}
+use Rattle.term_core.specs.Scopes.{in_scope}
 use Rattle.term_core.proofs.scope.+knows_all.Given as goal
 
 -- the free names of the rest are known as those of the whole are

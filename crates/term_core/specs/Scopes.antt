@@ -8,7 +8,7 @@ use Rattle.term_core.specs.declared.scope.Scope.TheFolds.{fold-Scope}
 use Rattle.std.specs.Str.{bytes_eq}
 use Rattle.term_core.specs.Operators.{sort_eq}
 use Rattle.term_core.specs.Rules.{is_variable}
-use Rattle.term_core.specs.Evaluation.{entry_value}
+use Rattle.term_core.specs.Literals.{entry_value}
 
 abbrev pub scope_layer : Scope-F (List ℕ → Sort → Bool) → List ℕ → Sort → Bool
 scope_layer (Scope-F.Entries es) text s = is_some (entry_value es.now text s)
