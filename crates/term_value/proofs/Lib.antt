@@ -1,0 +1,10 @@
+pub mod Words
+pub mod Knowing
+pub mod Coursing
+pub mod Lasts
+pub mod Calling
+pub mod Turning
+pub mod Starting
+pub mod Inverting
+pub mod Worth
+pub mod Soundness

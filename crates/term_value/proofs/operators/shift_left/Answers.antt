@@ -1,0 +1,6 @@
+use Rattle.std.proofs.Common.{sym, arith}
+use Rattle.term_value.proofs.Words.{gone_left}
+use Rattle.term_value.proofs.operators.shift_left.Goals as goal
+
+pub returns-else-n-lt64 : goal.returns-else-n-lt64
+returns-else-n-lt64 c = sym (gone_left c.args.a c.args.n (omega (arith, c.if-n-lt64.false)))

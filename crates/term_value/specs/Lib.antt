@@ -1,0 +1,4 @@
+pub mod Evaluation
+pub mod Agreement
+pub mod Answers
+pub mod inner
