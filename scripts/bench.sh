@@ -23,12 +23,25 @@ done >"$folder/a.vale"
 
 bench() {
     begun=$(date +%s%N)
-    said=$("$program" "$1" "$2" "$folder/$3")
+    said=$("$program" "$1" "$2" "$3")
     ended=$(date +%s%N)
     printf '%6d ms  %s\n' $(((ended - begun) / 1000000 / $2)) "$said"
 }
 
-bench scan 10 a.vale
-bench parse 10 a.vale
-bench read 10 a.s
-bench print 10 a.s
+bench scan 10 "$folder/a.vale"
+bench parse 10 "$folder/a.vale"
+bench read 10 "$folder/a.s"
+bench print 10 "$folder/a.s"
+
+# Balanced sums, the second of twice as many terms: about twice the time.
+for terms in 200000 400000; do
+    bench size-sum 20 $terms
+    bench print-sum 20 $terms
+    bench value-sum 20 $terms
+done
+
+# A sequent of 65,536 nodes, in which each name is new.
+bench fit-sequent 1 65536
+bench size-sequent 100 65536
+bench print-sequent 100 65536
+bench value-sequent 1 65536

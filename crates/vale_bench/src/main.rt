@@ -1,11 +1,17 @@
 //! Benchmarks of library calls: with the words CALL TIMES FILE the call is made on the file's bytes so many times, and how
-//! many parts the last one gave is printed. `scripts/bench.sh` takes the time.
+//! many parts the last one gave is printed. A call on terms has a number in place of the file: that of the terms of a sum,
+//! or of the nodes of a sequent. `scripts/bench.sh` takes the time.
 #![tactic(auto)]
+
+mod sums;
 
 use anyhow::{Result, bail};
 use gas_text::{print, read};
 use std::alloc::Global;
 use std::{env, fs};
+use sums::{
+    fit_sequent, print_sequent, print_sum, size_sequent, size_sum, value_sequent, value_sum,
+};
 use vale_lexer::tokens;
 use vale_parser::read_decls;
 use vale_syntax::Token;
@@ -70,20 +76,47 @@ fn print_text(alloc: Global, text: &[u8], times: u32) -> Result<usize> {
     Ok(parts)
 }
 
+// What a call on the bytes of a file gives.
+fn on_file(alloc: Global, call: &str, text: &[u8], times: u32) -> Result<usize> {
+    match call {
+        "scan" => scan(alloc, text, times),
+        "parse" => parse(alloc, text, times),
+        "read" => read_text(alloc, text, times),
+        "print" => print_text(alloc, text, times),
+        _ => bail!("no such call: {call}"),
+    }
+}
+
+// What a call on a term of that many parts gives.
+fn on_term(alloc: Global, call: &str, count: u32, times: u32) -> Result<usize> {
+    match call {
+        "size-sum" => size_sum(alloc, count, times),
+        "print-sum" => print_sum(alloc, count, times),
+        "value-sum" => value_sum(alloc, count, times),
+        "fit-sequent" => fit_sequent(alloc, count, times),
+        "size-sequent" => size_sequent(alloc, count, times),
+        "print-sequent" => print_sequent(alloc, count, times),
+        "value-sequent" => value_sequent(alloc, count, times),
+        _ => bail!("no such call: {call}"),
+    }
+}
+
+fn is_on_term(call: &str) -> bool {
+    call.ends_with("-sum") || call.ends_with("-sequent")
+}
+
 fn main(rt: HostRuntime) -> Result<()> {
     let alloc = rt.alloc();
     let mut words = env::args(&rt)?.skip(1);
-    let (Some(call), Some(times), Some(file)) = (words.next(), words.next(), words.next()) else {
-        bail!("the words are CALL TIMES FILE");
+    let (Some(call), Some(times), Some(last)) = (words.next(), words.next(), words.next()) else {
+        bail!("the words are CALL TIMES FILE or CALL TIMES NUMBER");
     };
     let times = times.parse::<u32>()?;
-    let text = fs::read(&rt, file.as_str())?;
-    let parts = match call.as_str() {
-        "scan" => scan(alloc, &text, times)?,
-        "parse" => parse(alloc, &text, times)?,
-        "read" => read_text(alloc, &text, times)?,
-        "print" => print_text(alloc, &text, times)?,
-        _ => bail!("the calls are scan, parse, read and print"),
+    let parts = if is_on_term(call.as_str()) {
+        on_term(alloc, call.as_str(), last.parse::<u32>()?, times)?
+    } else {
+        let text = fs::read(&rt, last.as_str())?;
+        on_file(alloc, call.as_str(), &text, times)?
     };
     println!(rt; "{call}: {parts} parts, {times} times")?;
     Ok(())

@@ -1,0 +1,4 @@
+pub mod Operations
+pub mod TermIn
+pub mod Answers
+pub mod inner

@@ -1,0 +1,2 @@
+-- Definitions of private contracts and of proofs: no claim of the program rests on them.
+pub mod Walks

@@ -1,0 +1,9 @@
+mod Growing
+mod Nodes
+mod Apart
+mod Filing
+mod Lists
+mod Freeness
+mod Changing
+mod Putting
+mod FreeNames

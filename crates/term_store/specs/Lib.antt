@@ -1,0 +1,5 @@
+pub mod inner
+pub mod Numbers
+pub mod Depths
+pub mod Free
+pub mod Changes
