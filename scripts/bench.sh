@@ -45,3 +45,7 @@ bench fit-sequent 1 65536
 bench size-sequent 100 65536
 bench print-sequent 100 65536
 bench value-sequent 1 65536
+
+# A million nodes of terms made in a store, and found there.
+bench make-nodes 10 1000000
+bench find-nodes 10 1000000

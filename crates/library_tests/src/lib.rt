@@ -1,6 +1,6 @@
 //! Tests of what the libraries answer where neither a clause nor a case says it: one happy path for calls that take
-//! memory and that no case makes, edges of words and blocks, an enciphered block, files and streams of the system, and
-//! places in trees.
+//! memory and that no case makes, edges of words and blocks, an enciphered block, files and streams of the system,
+//! places in trees, and deep and large terms by number.
 #![tactic(auto)]
 
 #[cfg(test)]
@@ -17,6 +17,8 @@ mod outside;
 mod places_in_trees;
 #[cfg(test)]
 mod printing;
+#[cfg(test)]
+mod shared_terms;
 #[cfg(test)]
 mod terms;
 #[cfg(test)]

@@ -1,14 +1,16 @@
 //! Benchmarks of library calls: with the words CALL TIMES FILE the call is made on the file's bytes so many times, and how
 //! many parts the last one gave is printed. A call on terms has a number in place of the file: that of the terms of a sum,
-//! or of the nodes of a sequent. `scripts/bench.sh` takes the time.
+//! or of the nodes of a sequent or of a store. `scripts/bench.sh` takes the time.
 #![tactic(auto)]
 
+mod store;
 mod sums;
 
 use anyhow::{Result, bail};
 use gas_text::{print, read};
 use std::alloc::Global;
 use std::{env, fs};
+use store::{find_nodes, make_nodes};
 use sums::{
     fit_sequent, print_sequent, print_sum, size_sequent, size_sum, value_sequent, value_sum,
 };
@@ -97,12 +99,14 @@ fn on_term(alloc: Global, call: &str, count: u32, times: u32) -> Result<usize> {
         "size-sequent" => size_sequent(alloc, count, times),
         "print-sequent" => print_sequent(alloc, count, times),
         "value-sequent" => value_sequent(alloc, count, times),
+        "make-nodes" => Ok(make_nodes(alloc, count, times)?),
+        "find-nodes" => Ok(find_nodes(alloc, count, times)?),
         _ => bail!("no such call: {call}"),
     }
 }
 
 fn is_on_term(call: &str) -> bool {
-    call.ends_with("-sum") || call.ends_with("-sequent")
+    call.ends_with("-sum") || call.ends_with("-sequent") || call.ends_with("-nodes")
 }
 
 fn main(rt: HostRuntime) -> Result<()> {

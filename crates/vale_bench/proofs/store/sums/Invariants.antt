@@ -1,0 +1,9 @@
+use Rattle.std.proofs.Common.{◌<◌, length}
+use Rattle.term_store.specs.Numbers.{Grows}
+use Rattle.vale_bench.proofs.store.sums.Given as goal
+
+abbrev pub invariant-loop-time : goal.invariant-loop-time
+invariant-loop-time l = record {
+  grows : Grows l.initial.store l.store;
+  within : l.sum < length l.store;
+}
